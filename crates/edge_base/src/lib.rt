@@ -1,0 +1,14 @@
+//! What every crate of the file system speaks of: geometries and the places of an image, nodes and
+//! their faults, refusals and damage. `specs/` has the definitions of places, check word and
+//! spelling; `docs/FORMAT.md` says the same in words.
+#![tactic(auto)]
+
+mod damage;
+mod geometry;
+mod node;
+mod refusal;
+
+pub use damage::{Damage, DamageKind};
+pub use geometry::{BadGeometry, Geometry, Request};
+pub use node::{Head, Master, Metaroot, NodeFault, NodeType};
+pub use refusal::Refusal;

@@ -1,0 +1,6 @@
+//! The disk, and a disk in memory.
+#![tactic(auto)]
+
+mod disk;
+
+pub use disk::{DeviceFault, Disk};

@@ -1,0 +1,2 @@
+//! Nodes as blocks: encode and decode. `docs/FORMAT.md` has the tables.
+#![tactic(auto)]
