@@ -1,2 +1,23 @@
-//! To come.
+//! What an image says: its live metaroot, its used blocks, the reasons why it is not mounted, and
+//! whether it is ready. The definitions stand in `specs/`; the functions here are laws over them,
+//! without effects.
 #![tactic(auto)]
+
+ghost use Rattle.std.specs.Prelude.{◌≡◌, ◌↔◌, Some};
+ghost use Rattle.edge_base.specs.declared.geometry.Request.{Request};
+ghost use Rattle.edge_base.specs.declared.node.Head.{Head};
+ghost use Rattle.edge_disk.specs.Image.{Image};
+ghost use Rattle.edge_image.specs.Image.{Live, live_of};
+ghost use Rattle.edge_image.specs.Ready.{IsReady, IsLive};
+
+/// The live metaroot is the valid one that no other beats, and there is no other such one.
+pub fn live_is_the_greater()
+    ensures { (g : Request) (image : Image) (live : Live) → (live_of g image ≡ Some live) ↔ IsLive g image live }
+{
+}
+
+/// An image is ready with one head alone.
+pub fn ready_with_one_head()
+    ensures { (image : Image) (one two : Head) → IsReady image one → IsReady image two → one ≡ two }
+{
+}

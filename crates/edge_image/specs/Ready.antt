@@ -1,0 +1,31 @@
+-- When an image is ready to be served, and with which head of the root directory.
+use Rattle.std.specs.Prelude.{◌≡◌, ◌≢◌, ◌⊎◌, ◌<◌, ◌≤◌, ℕ, Option, Some, None, Result, Ok}
+use Rattle.edge_base.specs.declared.geometry.Request.{Request}
+use Rattle.edge_base.specs.declared.node.Head.{Head}
+use Rattle.edge_base.specs.declared.node.Master.{Master}
+use Rattle.edge_base.specs.declared.node.Metaroot.{Metaroot}
+use Rattle.edge_base.specs.Spelling.{master_in, metaroot_in, inode_in}
+use Rattle.edge_disk.specs.Image.{Image}
+use Rattle.edge_image.specs.Image.{Live, live_of, used_place, reason_of}
+
+-- the number of the root directory
+abbrev pub root_number : ℕ
+root_number = 2
+
+-- No reason holds, exactly one place of the root's number is used, and it spells an inode with this head.
+pub record IsReady (image : Image) (head : Head) : Type 0 where
+  pub mounts : reason_of image ≡ None
+  pub master : Master
+  pub is_master : master_in (image.block 0) ≡ Ok master
+  pub live : Live
+  pub is_live : live_of master.geometry image ≡ Some live
+  pub place : ℕ
+  pub one_place : used_place master.geometry (image.block live.place) root_number ≡ Some place
+  pub spells : inode_in (image.block place) ≡ Ok head
+
+-- A block, 1 or 2, that spells a metaroot which no other of the two beats.
+pub record IsLive (g : Request) (image : Image) (live : Live) : Type 0 where
+  pub place : (live.place ≡ 1) ⊎ (live.place ≡ 2)
+  pub spells : metaroot_in g (image.block live.place) ≡ Ok live.root
+  pub wins : (other : ℕ) (root : Metaroot) → (other ≡ 1) ⊎ (other ≡ 2) → metaroot_in g (image.block other) ≡ Ok root
+      → (root.sequence < live.root.sequence) ⊎ ((root.sequence ≡ live.root.sequence) × (live.place ≤ other))
