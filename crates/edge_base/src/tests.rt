@@ -1,13 +1,17 @@
 use crate::{BadGeometry, DamageKind, Geometry, Refusal, Request};
 
-const USUAL: Request = Request {
-    block_size: 512,
-    blocks: 64,
-    inodes: 8,
-    name_max: 28,
-    direct: 4,
-    indirect: 32,
-};
+// Bytes of a block, blocks, inodes, bytes of a name, direct entries and indirect entries.
+fn request(asked: [u32; 6]) -> Request {
+    let [block_size, blocks, inodes, name_max, direct, indirect] = asked;
+    Request {
+        block_size,
+        blocks,
+        inodes,
+        name_max,
+        direct,
+        indirect,
+    }
+}
 
 // The places of a geometry: the pairs of imap nodes, the first block of the inode table, both places
 // of the root, the last inode's second place, the first allocable block, the number of allocable
@@ -29,227 +33,75 @@ fn places_of(geometry: &Geometry) -> [u32; 8] {
 
 #[test]
 fn tells_the_places(rt: HostRuntime) {
-    let told: [(Request, [u32; 8], u64); 6] = [
-        (USUAL, [0, 3, 3, 4, 18, 19, 45, 1_274_776], 652_685_312),
+    let told: [([u32; 6], [u32; 8], u64); 6] = [
         (
-            Request {
-                blocks: 3843,
-                ..USUAL
-            },
+            [512, 64, 8, 28, 4, 32],
+            [0, 3, 3, 4, 18, 19, 45, 1_274_776],
+            652_685_312,
+        ),
+        (
+            [512, 3843, 8, 28, 4, 32],
             [0, 3, 3, 4, 18, 19, 3824, 1_274_776],
             652_685_312,
         ),
         (
-            Request {
-                blocks: 22,
-                ..USUAL
-            },
+            [512, 22, 8, 28, 4, 32],
             [0, 3, 3, 4, 18, 19, 3, 1_274_776],
             652_685_312,
         ),
+        ([512, 8, 1, 12, 120, 0], [0, 3, 3, 4, 4, 5, 3, 120], 61_440),
         (
-            Request {
-                blocks: 8,
-                inodes: 1,
-                name_max: 12,
-                direct: 120,
-                indirect: 0,
-                ..USUAL
-            },
-            [0, 3, 3, 4, 4, 5, 3, 120],
-            61_440,
-        ),
-        (
-            Request {
-                direct: 1,
-                indirect: 119,
-                ..USUAL
-            },
+            [512, 64, 8, 28, 1, 119],
             [0, 3, 3, 4, 18, 19, 45, 14_638],
             7_494_656,
         ),
         (
-            Request {
-                block_size: 4096,
-                blocks: 32_515,
-                inodes: 16_000,
-                name_max: 252,
-                ..USUAL
-            },
+            [4096, 32_515, 16_000, 252, 4, 32],
             [0, 3, 3, 4, 32_002, 32_003, 512, 1_017_626_392],
             4_168_197_701_632,
         ),
     ];
-    for (request, places, size) in told {
-        let geometry = Geometry::checked(request);
-        assert!(rt; geometry.is_ok(), "{request:?}");
+    for (asked, places, size) in told {
+        let geometry = Geometry::checked(request(asked));
+        assert!(rt; geometry.is_ok(), "{asked:?}");
         let Ok(geometry) = geometry else { return };
-        assert_eq!(rt; geometry.request(), request);
-        assert!(rt; geometry.is_inline(), "{request:?}");
-        assert_eq!(rt; places_of(&geometry), places, "{request:?}");
-        assert_eq!(rt; geometry.max_size(), size, "{request:?}");
+        assert_eq!(rt; geometry.request(), request(asked));
+        assert!(rt; geometry.is_inline(), "{asked:?}");
+        assert_eq!(rt; places_of(&geometry), places, "{asked:?}");
+        assert_eq!(rt; geometry.max_size(), size, "{asked:?}");
     }
 }
 
 #[test]
 fn tells_the_first_limit_that_is_broken(rt: HostRuntime) {
-    let told: [(Request, BadGeometry); 23] = [
-        (
-            Request {
-                block_size: 1000,
-                ..USUAL
-            },
-            BadGeometry::BlockSize,
-        ),
-        (
-            Request {
-                block_size: 8192,
-                ..USUAL
-            },
-            BadGeometry::BlockSize,
-        ),
-        (
-            Request {
-                blocks: 4_194_305,
-                ..USUAL
-            },
-            BadGeometry::Blocks,
-        ),
-        (Request { inodes: 0, ..USUAL }, BadGeometry::Inodes),
-        (
-            Request {
-                inodes: 65_537,
-                ..USUAL
-            },
-            BadGeometry::Inodes,
-        ),
-        (
-            Request {
-                name_max: 8,
-                ..USUAL
-            },
-            BadGeometry::NameMax,
-        ),
-        (
-            Request {
-                name_max: 11,
-                ..USUAL
-            },
-            BadGeometry::NameMax,
-        ),
-        (
-            Request {
-                name_max: 14,
-                ..USUAL
-            },
-            BadGeometry::NameMax,
-        ),
-        (
-            Request {
-                name_max: 256,
-                ..USUAL
-            },
-            BadGeometry::NameMax,
-        ),
-        (Request { direct: 0, ..USUAL }, BadGeometry::Pointers),
-        (
-            Request {
-                direct: 60,
-                indirect: 61,
-                ..USUAL
-            },
-            BadGeometry::Pointers,
-        ),
-        (
-            Request {
-                direct: 2,
-                indirect: 4_294_967_295,
-                ..USUAL
-            },
-            BadGeometry::Pointers,
-        ),
-        (
-            Request {
-                blocks: 21,
-                ..USUAL
-            },
-            BadGeometry::Room,
-        ),
-        (Request { blocks: 0, ..USUAL }, BadGeometry::Room),
-        (
-            Request {
-                blocks: 3844,
-                ..USUAL
-            },
-            BadGeometry::External,
-        ),
-        (
-            Request {
-                block_size: 0,
-                blocks: 4_294_967_295,
-                ..USUAL
-            },
-            BadGeometry::BlockSize,
-        ),
-        (
-            Request {
-                blocks: 4_194_305,
-                inodes: 0,
-                ..USUAL
-            },
-            BadGeometry::Blocks,
-        ),
-        (
-            Request {
-                inodes: 0,
-                name_max: 0,
-                ..USUAL
-            },
-            BadGeometry::Inodes,
-        ),
-        (
-            Request {
-                name_max: 14,
-                direct: 0,
-                ..USUAL
-            },
-            BadGeometry::NameMax,
-        ),
-        (
-            Request {
-                blocks: 21,
-                direct: 0,
-                ..USUAL
-            },
-            BadGeometry::Pointers,
-        ),
-        (
-            Request {
-                blocks: 3844,
-                inodes: 1919,
-                ..USUAL
-            },
-            BadGeometry::Room,
-        ),
-        (
-            Request {
-                blocks: 100_000,
-                inodes: 49_972,
-                ..USUAL
-            },
-            BadGeometry::Room,
-        ),
-        (
-            Request {
-                blocks: 100_000,
-                inodes: 49_971,
-                ..USUAL
-            },
-            BadGeometry::External,
-        ),
+    let told: [([u32; 6], BadGeometry); 23] = [
+        ([1000, 64, 8, 28, 4, 32], BadGeometry::BlockSize),
+        ([8192, 64, 8, 28, 4, 32], BadGeometry::BlockSize),
+        ([512, 4_194_305, 8, 28, 4, 32], BadGeometry::Blocks),
+        ([512, 64, 0, 28, 4, 32], BadGeometry::Inodes),
+        ([512, 64, 65_537, 28, 4, 32], BadGeometry::Inodes),
+        ([512, 64, 8, 8, 4, 32], BadGeometry::NameMax),
+        ([512, 64, 8, 11, 4, 32], BadGeometry::NameMax),
+        ([512, 64, 8, 14, 4, 32], BadGeometry::NameMax),
+        ([512, 64, 8, 256, 4, 32], BadGeometry::NameMax),
+        ([512, 64, 8, 28, 0, 32], BadGeometry::Pointers),
+        ([512, 64, 8, 28, 60, 61], BadGeometry::Pointers),
+        ([512, 64, 8, 28, 2, 4_294_967_295], BadGeometry::Pointers),
+        ([512, 21, 8, 28, 4, 32], BadGeometry::Room),
+        ([512, 0, 8, 28, 4, 32], BadGeometry::Room),
+        ([512, 3844, 8, 28, 4, 32], BadGeometry::External),
+        ([512, 100_000, 49_971, 28, 4, 32], BadGeometry::External),
+        // two limits are broken
+        ([0, 4_294_967_295, 8, 28, 4, 32], BadGeometry::BlockSize),
+        ([512, 4_194_305, 0, 28, 4, 32], BadGeometry::Blocks),
+        ([512, 64, 0, 0, 4, 32], BadGeometry::Inodes),
+        ([512, 64, 8, 14, 0, 32], BadGeometry::NameMax),
+        ([512, 21, 8, 28, 0, 32], BadGeometry::Pointers),
+        ([512, 3844, 1919, 28, 4, 32], BadGeometry::Room),
+        ([512, 100_000, 49_972, 28, 4, 32], BadGeometry::Room),
     ];
-    for (request, limit) in told {
-        assert_eq!(rt; Geometry::checked(request), Err(limit), "{request:?}");
+    for (asked, limit) in told {
+        assert_eq!(rt; Geometry::checked(request(asked)), Err(limit), "{asked:?}");
     }
 }
 
