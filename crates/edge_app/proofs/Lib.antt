@@ -1,2 +1,4 @@
 pub mod StreamLaws
 pub mod SessionLaws
+pub mod CountLaws
+pub mod MountLaws

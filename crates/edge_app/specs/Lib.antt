@@ -5,3 +5,6 @@ pub mod Stream
 pub mod Part
 pub mod Turn
 pub mod Session
+pub mod Live
+pub mod Mount
+pub mod Report

@@ -2,6 +2,12 @@
 #![tactic(auto)]
 
 mod lines;
+mod mount;
 mod reply;
+mod report;
 mod session;
+mod top;
 mod words;
+
+pub use report::{Outcome, Report};
+pub use top::edge;

@@ -4,6 +4,10 @@ ghost use Rattle.edge_app.specs.Feeds.{is_line_feed};
 ghost use Rattle.edge_base.specs.Faults.{HasCause};
 
 use edge_io::{Source, SourceFault};
+use std::alloc::{AllocError, Global};
+
+/// How many bytes are read from a source at once.
+const INPUT: usize = 65_536;
 
 /// One byte more than a line may have that is a command.
 const KEPT: usize = 8210;
@@ -49,6 +53,21 @@ fn append(line: &mut [u8], kept: usize, bytes: &[u8]) -> usize
 impl LineReader {
     ghost use Rattle.edge_app.specs.Feeds.{GoesOn, TakesLine, HasBegun, kept_part};
     ghost use Rattle.edge_app.specs.Stream.{pending, stream_of, kept_of, used_of};
+
+    /// A reader that has taken nothing up, with all the memory that it needs.
+    pub fn new(alloc: Global) -> Result<LineReader, AllocError>
+        ensures unused { IfOk result (λ r. used_of r ≡ 0) }
+        ensures nothing_pending { IfOk result (λ r. pending r ≡ []) }
+    {
+        Ok(LineReader {
+            input: vec![in alloc; 0u8; INPUT]?,
+            at: 0,
+            end: 0,
+            line: vec![in alloc; 0u8; KEPT]?,
+            kept: 0,
+            used: 0,
+        })
+    }
 
     // Reads more, where nothing is pending, and answers whether there is more.
     fn refill<S: Source>(&mut self, src: &mut S) -> Result<bool, SourceFault>

@@ -1,6 +1,6 @@
 -- Where things lie on the image of a geometry.
 use Rattle.std.specs.Prelude.{◌≡◌, ℕ, ◌+◌, ◌-◌, ◌*◌, ◌/◌, ◌%◌, ◌≤◌, Bool, true, ◌==◌, ◌||◌, not, nat_lt, if◌then◌else◌, Option, Some, None, IsTrue}
-use Rattle.edge_base.specs.Sizes.{is_block_size, fits_inline, node_bits, pairs_for}
+use Rattle.edge_base.specs.Sizes.{is_block_size, fits_inline, node_bits, pairs_for, place_of}
 use Rattle.edge_base.specs.declared.geometry.BadGeometry.{BadGeometry}
 use Rattle.edge_base.specs.declared.geometry.BadGeometry.TheVariants.{BlockSize, Blocks, Inodes, NameMax, Pointers, Room, External}
 use Rattle.edge_base.specs.declared.geometry.Request.{Request}
@@ -24,10 +24,6 @@ imap_nodes_of g = pairs_for g.block_size g.blocks
 -- k imap nodes have a bit for each block behind them
 abbrev pub HaveRoom : Request → ℕ → Type 0
 HaveRoom g k = g.blocks - 3 - 2 * k ≤ k * node_bits g.block_size
-
--- 0 for the first place of a pair, 1 for the second
-abbrev pub place_of : Bool → ℕ
-place_of second = if second then 1 else 0
 
 abbrev pub imap_place_of : Request → ℕ → Bool → ℕ
 imap_place_of g node second = 3 + 2 * node + place_of second

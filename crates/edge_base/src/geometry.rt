@@ -1,5 +1,5 @@
-ghost use Rattle.std.specs.Prelude.{◌≡◌, ℕ, ◌+◌, ◌<◌, ◌≤◌, false, None, Some, MatchResult, IsTrue};
-ghost use Rattle.edge_base.specs.Sizes.{is_block_size, pairs_for};
+ghost use Rattle.std.specs.Prelude.{◌≡◌, ℕ, ◌+◌, ◌-◌, ◌*◌, ◌^◌, ◌<◌, ◌≤◌, false, None, Some, MatchResult, IsTrue};
+ghost use Rattle.edge_base.specs.Sizes.{is_block_size, fits_inline, node_bits, pairs_for, place_of};
 
 use std::marker::Model;
 
@@ -54,7 +54,7 @@ impl Model for Geometry {
 }
 
 impl Geometry {
-    ghost use Rattle.edge_base.specs.Places.{bad_geometry, is_inline_of, imap_nodes_of, HaveRoom, imap_place_of, table_start_of, inode_place_of, first_allocable_of, allocable_of, max_blocks_of, max_size_of, IsGeometry};
+    ghost use Rattle.edge_base.specs.Places.{bad_geometry, is_inline_of, imap_nodes_of, HaveRoom, imap_place_of, table_start_of, inode_place_of, first_allocable_of, allocable_of, max_blocks_of, max_size_of, IsGeometry, IsWithinLimits};
 
     /// The geometry of a request, or the first limit that it breaks.
     #[tactic(auto, unfolding(crate::specs::Places::bad_geometry))]
@@ -97,6 +97,7 @@ impl Geometry {
     pub fn request(&self) -> Request
         ensures same { result ≡ self.now }
         ensures geometry { IsGeometry self.now }
+        ensures limits { IsWithinLimits self.now }
     {
         self.request
     }
@@ -124,7 +125,7 @@ impl Geometry {
         ensures before_table { result < table_start_of self.now }
     {
         let _within_limits = &self.request;
-        3 + 2 * node + u32::from(second)
+        place_in_pair(3, node, second)
     }
 
     /// The first block of the inode table.
@@ -143,7 +144,7 @@ impl Geometry {
         ensures in_table { result < first_allocable_of self.now }
     {
         let _within_limits = &self.request;
-        self.table_start() + 2 * (number - 2) + u32::from(second)
+        place_in_pair(self.table_start(), number - 2, second)
     }
 
     /// The first block that files and directories may use.
@@ -180,11 +181,21 @@ impl Geometry {
     }
 }
 
+// The first or second block of a pair, in pairs from a block on.
+fn place_in_pair(start: u32, pair: u32, second: bool) -> u32
+    requires { start + 2 * pair + 1 < 2 ^ 32 }
+    ensures { result ≡ start + 2 * pair + place_of second }
+{
+    start + 2 * pair + u32::from(second)
+}
+
 // The pairs of imap nodes of so many blocks of this size.
 fn pairs_of_imap_nodes(block_size: u32, blocks: u32) -> u32
     requires size { IsTrue (is_block_size block_size) }
     requires few { blocks ≤ 4194304 }
-    ensures { result ≡ pairs_for block_size blocks }
+    ensures count { result ≡ pairs_for block_size blocks }
+    ensures enough { fits_inline block_size blocks ≡ false → blocks - 3 - 2 * result ≤ result * node_bits block_size }
+    ensures least { fits_inline block_size blocks ≡ false → (k : ℕ) → blocks - 3 - 2 * k ≤ k * node_bits block_size → result ≤ k }
 {
     let bits = blocks.saturating_sub(3);
     if bits <= 8 * (block_size - 32) {

@@ -6,11 +6,7 @@ use Rattle.edge_base.specs.declared.node.Master.{Master}
 use Rattle.edge_base.specs.declared.node.Metaroot.{Metaroot}
 use Rattle.edge_base.specs.Spelling.{master_in, metaroot_in, inode_in}
 use Rattle.edge_disk.specs.Image.{Image}
-use Rattle.edge_image.specs.Image.{Live, live_of, used_place, reason_of}
-
--- the number of the root directory
-abbrev pub root_number : ℕ
-root_number = 2
+use Rattle.edge_image.specs.Image.{Live, live_of, used_place, root_number, reason_of}
 
 -- No reason holds, exactly one place of the root's number is used, and it spells an inode with this head.
 pub record IsReady (image : Image) (head : Head) : Type 0 where

@@ -1,0 +1,107 @@
+ghost use Rattle.std.specs.Prelude.{◌≡◌, ◌⊎◌, ◌↔◌, ◌++◌, [], ℕ, map, take, IsTrue, IfOk, IsSome, IsNone, vec_len};
+ghost use Rattle.edge_base.specs.Faults.{Rose};
+ghost use Rattle.edge_base.specs.declared.node.Head.{Head};
+ghost use Rattle.edge_disk.specs.Image.{shown_image};
+ghost use Rattle.edge_image.specs.Ready.{IsReady};
+ghost use Rattle.edge_app.specs.Mount.{IsUntouched};
+ghost use Rattle.edge_app.specs.Report.{is_status, session_end, Serves};
+ghost use Rattle.edge_app.specs.Script.{lines_of, replies_to};
+ghost use Rattle.edge_app.specs.Stream.{pending, used_of};
+ghost use Rattle.edge_app.specs.Words.{IsRun};
+
+use crate::lines::LineReader;
+use crate::mount::ready_head;
+use crate::report::{DEVICE, MEMORY, NOT_A_VOLUME, Outcome, Report, WORDS};
+use crate::session::{Limit, serve};
+use crate::words::is_run;
+use edge_disk::Disk;
+use edge_io::{Sink, Source};
+use std::alloc::{AllocError, Global};
+
+/// The bytes of a block.
+const BLOCK_SIZE: u32 = 512;
+
+/// The limits of a session.
+const LIMITS: Limit = Limit {
+    lines: 4_294_967_295,
+    bytes: 1_099_511_627_776,
+};
+
+// All the memory of a run.
+#[derive(Drop)]
+struct Buffers {
+    lines: LineReader,
+    root: Vec<u8>,
+    block: Vec<u8>,
+}
+
+impl Buffers {
+    fn new(alloc: Global) -> Result<Buffers, AllocError>
+        ensures unused { IfOk result (λ b. used_of b.lines ≡ 0) }
+        ensures nothing_pending { IfOk result (λ b. pending b.lines ≡ []) }
+        ensures root { IfOk result (λ b. vec_len b.root ≡ 512) }
+        ensures block { IfOk result (λ b. vec_len b.block ≡ 512) }
+    {
+        Ok(Buffers {
+            lines: LineReader::new(alloc)?,
+            root: vec![in alloc; 0u8; BLOCK_SIZE as usize]?,
+            block: vec![in alloc; 0u8; BLOCK_SIZE as usize]?,
+        })
+    }
+}
+
+/// Runs the command that the words say: `run IMAGE` answers the script of `src`, line by line, into `out`,
+/// over the disk, which has blocks of 512 bytes. It takes all its memory before the first device call.
+pub fn edge<S: Source, K: Sink, D: Disk>(
+    alloc: Global,
+    words: &[&str],
+    src: &mut S,
+    out: &mut K,
+    mut disk: D,
+) -> Outcome<D>
+    requires { (D.origin disk).block_size ≡ 512 }
+
+    // No other status comes, no point is taken, and the disk is given back as it was but for its count.
+    ensures status { IsTrue (is_status result.report.status) }
+    ensures points { result.report.points ≡ 0 }
+    ensures untouched { IsUntouched (D.origin disk) (D.origin result.disk) (D.shown disk) (D.shown result.disk) (D.may_hold disk) (D.may_hold result.disk) (D.is_sure disk) (D.is_sure result.disk) }
+
+    // When each status comes.
+    ensures words { (result.report.status ≡ 2) ↔ (IsRun (map (λ word. word.now) words.now) → ⊥) }
+    ensures source { result.report.status ≡ 3 → Rose (S.faults src.old) (S.faults src.new) }
+    ensures sink { result.report.status ≡ 4 → Rose (K.faults out.old) (K.faults out.new) }
+    ensures device { result.report.status ≡ 5 → Rose (D.faults disk) (D.faults result.disk) }
+    ensures memory { result.report.status ≡ 7 → result.report.commands ≡ 0 }
+    ensures not_ready { IsTrue (D.origin disk).shows → result.report.status ≡ 8 → (head : Head) → IsReady (shown_image (D.origin disk) (D.shown disk)) head → ⊥ }
+    ensures ready { IsTrue (D.origin disk).shows → IsSome (session_end result.report.status) → (head : Head) × IsReady (shown_image (D.origin disk) (D.shown disk)) head }
+    ensures limit { result.report.status ≡ 11 → (result.report.commands ≡ 4294967295) ⊎ (result.report.taken ≡ 1099511627776) }
+
+    // What is answered, where the image is ready.
+    ensures served { IsTrue (D.origin disk).shows → IsTrue (S.tells src.old) → IsTrue (K.tells out.old) → (head : Head) → IsReady (shown_image (D.origin disk) (D.shown disk)) head
+        → Serves (session_end result.report.status) head (S.left src.old) result.report.commands (K.taken out.old) (K.taken out.new) }
+    ensures prefix { IsTrue (D.origin disk).shows → IsTrue (S.tells src.old) → IsTrue (K.tells out.old) → (head : Head) → IsReady (shown_image (D.origin disk) (D.shown disk)) head
+        → (n : ℕ) × (K.taken out.new ≡ K.taken out.old ++ take n (replies_to head (lines_of (S.left src.old)))) }
+    ensures whole { result.report.status ≡ 0 → IsTrue (D.origin disk).shows → IsTrue (S.tells src.old) → IsTrue (K.tells out.old) → (head : Head) → IsReady (shown_image (D.origin disk) (D.shown disk)) head
+        → K.taken out.new ≡ K.taken out.old ++ replies_to head (lines_of (S.left src.old)) }
+    ensures end { result.report.status ≡ 0 → IsTrue (S.tells src.old) → S.left src.new ≡ [] }
+    ensures unserved { IsNone (session_end result.report.status) → (K.taken out.new ≡ K.taken out.old) × (S.left src.new ≡ S.left src.old) }
+{
+    if !is_run(words) {
+        return Outcome {
+            report: Report::unserved(WORDS),
+            disk,
+        };
+    }
+    let Ok(mut buffers) = Buffers::new(alloc) else {
+        return Outcome {
+            report: Report::unserved(MEMORY),
+            disk,
+        };
+    };
+    let report = match ready_head(&mut disk, &mut buffers.root, &mut buffers.block) {
+        Err(_) => Report::unserved(DEVICE),
+        Ok(None) => Report::unserved(NOT_A_VOLUME),
+        Ok(Some(head)) => Report::served(serve(src, out, &head, LIMITS, &mut buffers.lines)),
+    };
+    Outcome { report, disk }
+}
