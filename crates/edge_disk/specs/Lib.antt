@@ -1,2 +1,5 @@
+pub mod CandidateLaws
 pub mod Disk
 pub mod Image
+pub mod Memory
+pub mod Slots

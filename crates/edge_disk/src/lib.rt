@@ -2,5 +2,12 @@
 #![tactic(auto)]
 
 mod disk;
+mod make;
+mod memory;
+mod slot;
 
 pub use disk::{DeviceFault, Disk};
+pub use memory::MemoryDisk;
+
+#[cfg(test)]
+mod tests;
