@@ -2,3 +2,4 @@ pub mod StreamLaws
 pub mod SessionLaws
 pub mod CountLaws
 pub mod MountLaws
+pub mod TopLaws

@@ -98,10 +98,21 @@ pub fn edge<S: Source, K: Sink, D: Disk>(
             disk,
         };
     };
-    let report = match ready_head(&mut disk, &mut buffers.root, &mut buffers.block) {
-        Err(_) => Report::unserved(DEVICE),
-        Ok(None) => Report::unserved(NOT_A_VOLUME),
-        Ok(Some(head)) => Report::served(serve(src, out, &head, LIMITS, &mut buffers.lines)),
-    };
-    Outcome { report, disk }
+    match ready_head(&mut disk, &mut buffers.root, &mut buffers.block) {
+        Err(_) => Outcome {
+            report: Report::unserved(DEVICE),
+            disk,
+        },
+        Ok(None) => Outcome {
+            report: Report::unserved(NOT_A_VOLUME),
+            disk,
+        },
+        Ok(Some(head)) => {
+            let ended = serve(src, out, &head, LIMITS, &mut buffers.lines);
+            Outcome {
+                report: Report::served(ended),
+                disk,
+            }
+        }
+    }
 }
