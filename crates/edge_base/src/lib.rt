@@ -7,6 +7,8 @@ mod damage;
 mod geometry;
 mod node;
 mod refusal;
+#[cfg(test)]
+mod tests;
 
 pub use damage::{Damage, DamageKind};
 pub use geometry::{BadGeometry, Geometry, Request};
