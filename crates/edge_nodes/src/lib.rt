@@ -1,2 +1,19 @@
 //! Nodes as blocks: encode and decode. `docs/FORMAT.md` has the tables.
 #![tactic(auto)]
+
+mod bits;
+mod block;
+mod inode;
+mod master;
+mod metaroot;
+mod reading;
+#[cfg(test)]
+mod tests;
+mod writing;
+
+pub use bits::{bit_of, bits_of, entry_of};
+pub use edge_base::{Head, Master, Metaroot, NodeFault, NodeType};
+pub use inode::{decode_inode, encode_inode};
+pub use master::{decode_master, encode_master};
+pub use metaroot::{decode_metaroot, encode_metaroot};
+pub use writing::seal;

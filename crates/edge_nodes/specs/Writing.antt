@@ -1,0 +1,11 @@
+-- What a write into a block leaves as it was.
+use Rattle.std.specs.Prelude.{◌≡◌, ℕ, ◌+◌, ◌≤◌, List, take, drop}
+use Rattle.edge_base.specs.Bytes.{number_at, signature_in}
+
+-- Only bytes between two places changed: the lists before and behind them are the old ones, and so is what is read there.
+pub record ChangesOnly (from to : ℕ) (old new : List ℕ) : Type 0 where
+  pub front : (k : ℕ) → k ≤ from → take k new ≡ take k old
+  pub back : (k : ℕ) → to ≤ k → drop k new ≡ drop k old
+  pub before : (i n : ℕ) → i + n ≤ from → number_at i n new ≡ number_at i n old
+  pub behind : (i n : ℕ) → to ≤ i → number_at i n new ≡ number_at i n old
+  pub signature : 4 ≤ from → signature_in new ≡ signature_in old

@@ -1,0 +1,22 @@
+ghost use Rattle.std.specs.Prelude.{◌≡◌, ◌+◌, ◌*◌, ◌≤◌};
+ghost use Rattle.edge_base.specs.Places.{IsGeometry, entries_of, root_bits_of};
+
+use edge_base::Geometry;
+
+/// The bytes of a block.
+pub(crate) fn block_size(g: &Geometry) -> usize
+    ensures size { result ≡ g.now.block_size }
+    ensures least { 512 ≤ result }
+    ensures most { result ≤ 4096 }
+    ensures geometry { IsGeometry g.now }
+    ensures whole { 32 + 4 * entries_of g.now ≡ result }
+{
+    g.request().block_size as usize
+}
+
+/// The bits of a metaroot's bitmap.
+pub(crate) fn root_bits(g: &Geometry) -> u32
+    ensures { result ≡ root_bits_of g.now }
+{
+    g.request().blocks - 3
+}
