@@ -77,9 +77,11 @@ replies-more head script left k before now after next so_far more =
 pub part-more : (head : Head) (script left : List ℕ) (k : ℕ) (before now after : List ℕ) → IsNext (lines_of script) k (first_line left) (lines_of (after_line left))
     → now ≡ before ++ replies_before head script k → TookPart (reply_to head (first_line left)) now after
     → (k < length (lines_of script)) × TookPart (reply_at head script k) (before ++ replies_before head script k) after
-part-more head script left k before now after next so_far part =
-    (next.below, subst (λ l. TookPart (reply_to head l) (before ++ replies_before head script k) after) (sym next.at)
-        (subst (λ t. TookPart (reply_to head (first_line left)) t after) so_far part))
+part-more head script left k before now after next so_far part = (
+  next.below,
+  subst (λ l. TookPart (reply_to head l) (before ++ replies_before head script k) after) (sym next.at)
+      (subst (λ t. TookPart (reply_to head (first_line left)) t after) so_far part),
+)
 
 -- ---- the end of a session
 

@@ -83,9 +83,9 @@ pub lines_of-first : (bytes : List ℕ) → 0 < length bytes → lines_of bytes 
 lines_of-first [] some = absurd (omega arith)
 lines_of-first (x ∷ rest) some = elim (is_line_feed x) as (λ t. cond t ([] ∷ lines_of rest) (onto_first_line x (lines_of rest))
     ≡ take (cond (not t) (1 + position_or_len is_line_feed rest) 0) (x ∷ rest) ∷ lines_of (drop (cond (not t) (1 + position_or_len is_line_feed rest) 0 + 1) (x ∷ rest))) [
-  | true ↦ refl
-  | false ↦ longer x rest (lines_of-first rest)
-]
+      | true ↦ refl
+      | false ↦ longer x rest (lines_of-first rest)
+    ]
 
 -- ---- pieces
 
@@ -121,8 +121,8 @@ goes_ended left kept new n i inside e is =
     let short = length-take-le n left inside in
     let below : i < n = omega (arith, at.1, short) in
     let feed : get_or left i 0 ≡ 10 =
-        sym (get_or-take n left i 0 below) ∙ ap (λ (k : ℕ). get_or (take n left) k 0) (sym at.0)
-        ∙ feed_there (take n left) (omega (arith, at.0, at.1)) in
+    sym (get_or-take n left i 0 below) ∙ ap (λ (k : ℕ). get_or (take n left) k 0) (sym at.0)
+    ∙ feed_there (take n left) (omega (arith, at.0, at.1)) in
     record {
       piece = take i left;
       no_feed = subst HasNoLineFeed (ap (λ (k : ℕ). take k (take n left)) at.0 ∙ take-take i n left (omega arith)) (no_feed-before (take n left));
@@ -214,8 +214,8 @@ begun-end before held left kept held_after kept_after n m b g =
     let line = b.begun ++ g.piece in
     let no_feed = no_feed-append b.begun g.piece b.no_feed g.no_feed in
     let split : before ≡ line ++ 10 ∷ (held_after ++ left) =
-        b.split ∙ ap (λ h. b.begun ++ (h ++ left)) g.split ∙ ap (λ r. b.begun ++ r) (append_assoc g.piece (10 ∷ held_after) left)
-        ∙ sym (append_assoc b.begun g.piece (10 ∷ (held_after ++ left))) in
+    b.split ∙ ap (λ h. b.begun ++ (h ++ left)) g.split ∙ ap (λ r. b.begun ++ r) (append_assoc g.piece (10 ∷ held_after) left)
+    ∙ sym (append_assoc b.begun g.piece (10 ∷ (held_after ++ left))) in
     let whole = ap length split ∙ length-append line (10 ∷ (held_after ++ left)) in
     let parts = length-append b.begun g.piece in
     let c = b.count in

@@ -28,9 +28,11 @@ IsFront head script before after = (n : ℕ) × (after ≡ before ++ take n (rep
 
 first_lines : (head : Head) (script : List ℕ) (k : ℕ) (before after : List ℕ) → after ≡ before ++ replies_before head script k → IsFront head script before after
 first_lines head script k before after e =
-    let whole = replies-split head k (lines_of script) in
-    (length (replies_before head script k), e ∙ ap (λ r. before ++ r) (sym (ap (take (length (replies_before head script k))) whole
-        ∙ take_at (replies_before head script k) (replies_to head (drop k (lines_of script))) _ refl)))
+    let whole = replies-split head k (lines_of script) in (
+      length (replies_before head script k),
+      e ∙ ap (λ r. before ++ r) (sym (ap (take (length (replies_before head script k))) whole
+          ∙ take_at (replies_before head script k) (replies_to head (drop k (lines_of script))) _ refl)),
+    )
 
 pub is_front : (how : How) (head : Head) (script : List ℕ) (k : ℕ) (before after : List ℕ) → TookReplies how head script k before after → IsFront head script before after
 is_front End head script k before after took = first_lines head script k before after took
@@ -42,7 +44,7 @@ is_front Sink head script k before after took =
     let next = reply_at head script k in
     let rest = replies_to head (drop (k + 1) (lines_of script)) in
     let whole : replies_to head (lines_of script) ≡ told ++ (next ++ rest) =
-        replies-split head k (lines_of script) ∙ ap (λ ls. told ++ replies_to head ls) (drop_more (lines_of script) k [] took.0) in
+    replies-split head k (lines_of script) ∙ ap (λ ls. told ++ replies_to head ls) (drop_more (lines_of script) k [] took.0) in
     let front : take (length told + part.count) (told ++ (next ++ rest)) ≡ told ++ take part.count (next ++ rest) = take-append-add told (next ++ rest) part.count in
     let inside : take part.count (next ++ rest) ≡ take part.count next = take-append-le part.count next rest (let h = part.not_all in omega arith) in
     (length told + part.count, part.took ∙ append_assoc before told (take part.count next) ∙ ap (λ r. before ++ r) (sym (ap (take (length told + part.count)) whole ∙ front ∙ ap (λ r. told ++ r) inside)))
@@ -62,7 +64,7 @@ one_head image a b one two =
     let geometry : one.master.geometry ≡ two.master.geometry = ap (λ (m : Master). m.geometry) master in
     let live : one.live ≡ two.live = let e = sym one.is_live ∙ ap (λ (r : Request). live_of r image) geometry ∙ two.is_live in cc in
     let place : one.place ≡ two.place =
-        let e = sym one.one_place ∙ ap (λ (r : Request). used_place r (image.block one.live.place) root_number) geometry
-            ∙ ap (λ (l : Live). used_place two.master.geometry (image.block l.place) root_number) live ∙ two.one_place in cc in
+    let e = sym one.one_place ∙ ap (λ (r : Request). used_place r (image.block one.live.place) root_number) geometry
+    ∙ ap (λ (l : Live). used_place two.master.geometry (image.block l.place) root_number) live ∙ two.one_place in cc in
     let e : Ok a ≡ Ok b = sym one.spells ∙ ap (λ (p : ℕ). inode_in (image.block p)) place ∙ two.spells in
     cc

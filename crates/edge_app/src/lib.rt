@@ -9,5 +9,6 @@ mod session;
 mod top;
 mod words;
 
-pub use report::{Outcome, Report};
+pub use report::{DEVICE, DONE, LIMIT, MEMORY, NOT_A_VOLUME, Outcome, Report, SINK, SOURCE, WORDS};
 pub use top::edge;
+pub use words::is_run;

@@ -4,7 +4,6 @@ ghost use Rattle.edge_base.specs.Places.{table_start_of};
 ghost use Rattle.edge_base.specs.Spelling.{metaroot_in};
 ghost use Rattle.edge_disk.specs.Image.{shown_image};
 ghost use Rattle.edge_image.specs.Image.{live_among, is_used, is_free, free_blocks_of, free_inodes_of, reason_of_root, used_place, root_number, root_head_of};
-
 ghost use Rattle.std.specs.Prelude.{Some, None, IfSome};
 ghost use Rattle.edge_disk.specs.Disk.{SameCandidates};
 ghost use Rattle.edge_app.specs.Mount.{IsUntouched, Mounts, MountsWhole, Judges, TellsReady};
@@ -112,7 +111,11 @@ fn find_live(g: &Geometry, one: &mut [u8], two: &[u8]) -> Option<Metaroot>
 
 /// Reads the master and the metaroots, and tells the first reason why the image is not mounted, if there
 /// is one. If there is none, the live metaroot is left in `root`. Both slices have a block's size.
-pub fn mount<D: Disk>(disk: &mut D, root: &mut [u8], spare: &mut [u8]) -> Result<Mounted, DeviceFault>
+pub fn mount<D: Disk>(
+    disk: &mut D,
+    root: &mut [u8],
+    spare: &mut [u8],
+) -> Result<Mounted, DeviceFault>
     requires root { length root.old ≡ (D.origin disk.old).block_size }
     requires spare { length spare.old ≡ (D.origin disk.old).block_size }
     ensures cause { HasCause (D.faults disk.old) (D.faults disk.new) result }
@@ -172,7 +175,12 @@ fn root_place(g: &Geometry, root: &[u8]) -> Option<u32>
 
 /// Reads the head of the root's inode, by the bytes of the live metaroot. There is none where not exactly
 /// one of its places is used, or that one spells no inode.
-pub fn root_head<D: Disk>(disk: &mut D, g: &Geometry, root: &[u8], block: &mut [u8]) -> Result<Option<Head>, DeviceFault>
+pub fn root_head<D: Disk>(
+    disk: &mut D,
+    g: &Geometry,
+    root: &[u8],
+    block: &mut [u8],
+) -> Result<Option<Head>, DeviceFault>
     requires size { g.now.block_size ≡ (D.origin disk.old).block_size }
     requires fits { g.now.blocks ≤ (D.origin disk.old).blocks }
     requires root { length root.now ≡ g.now.block_size }
@@ -190,7 +198,11 @@ pub fn root_head<D: Disk>(disk: &mut D, g: &Geometry, root: &[u8], block: &mut [
 
 /// The head of the root directory of an image that is ready, and nothing where it is not. All slices have a
 /// block's size.
-pub fn ready_head<D: Disk>(disk: &mut D, root: &mut [u8], block: &mut [u8]) -> Result<Option<Head>, DeviceFault>
+pub fn ready_head<D: Disk>(
+    disk: &mut D,
+    root: &mut [u8],
+    block: &mut [u8],
+) -> Result<Option<Head>, DeviceFault>
     requires root { length root.old ≡ (D.origin disk.old).block_size }
     requires block { length block.old ≡ (D.origin disk.old).block_size }
     ensures cause { HasCause (D.faults disk.old) (D.faults disk.new) result }

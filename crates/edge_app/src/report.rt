@@ -22,6 +22,7 @@ pub struct Report {
 }
 
 /// What a run leaves: its report, and the disk that it was given.
+#[derive(Debug, Drop)]
 pub struct Outcome<D> {
     pub report: Report,
     pub disk: D,

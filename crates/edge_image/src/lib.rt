@@ -13,11 +13,9 @@ ghost use Rattle.edge_image.specs.Ready.{IsReady, IsLive};
 /// The live metaroot is the valid one that no other beats, and there is no other such one.
 pub fn live_is_the_greater()
     ensures { (g : Request) (image : Image) (live : Live) → (live_of g image ≡ Some live) ↔ IsLive g image live }
-{
-}
+{}
 
 /// An image is ready with one head alone.
 pub fn ready_with_one_head()
     ensures { (image : Image) (one two : Head) → IsReady image one → IsReady image two → one ≡ two }
-{
-}
+{}

@@ -34,7 +34,7 @@ returns-clause-told g c = λ shows.
     (sym (ap (λ r. r.block_size) c.request-request.ensures.same) ∙ c.if-request-block_size.false ∙ c.block_size.ensures ∙ ap (λ o. o.block_size) c.in_ok-read.ensures.origin)
     (omega (arith, c.blocks-3.ensures, ap (λ o. o.blocks) c.in_ok-read.ensures.origin, ap (λ r. r.blocks) c.request-request.ensures.same))
     (judged-same c.in-Ok.master.geometry _ _ _ _ _ _
-        (c.in_ok-read-2.ensures.bytes (subst (λ o. IsTrue o.shows) (sym c.in_ok-read.ensures.origin) shows) ∙ ap (λ s. s 1) c.in_ok-read.ensures.shown)
-        (c.in_ok-read-3.ensures.bytes (subst (λ o. IsTrue o.shows) (sym (c.in_ok-read-2.ensures.origin ∙ c.in_ok-read.ensures.origin)) shows)
-            ∙ ap (λ s. s 2) (c.in_ok-read-2.ensures.shown ∙ c.in_ok-read.ensures.shown))
-        c.judge.ensures)
+    (c.in_ok-read-2.ensures.bytes (subst (λ o. IsTrue o.shows) (sym c.in_ok-read.ensures.origin) shows) ∙ ap (λ s. s 1) c.in_ok-read.ensures.shown)
+    (c.in_ok-read-3.ensures.bytes (subst (λ o. IsTrue o.shows) (sym (c.in_ok-read-2.ensures.origin ∙ c.in_ok-read.ensures.origin)) shows)
+    ∙ ap (λ s. s 2) (c.in_ok-read-2.ensures.shown ∙ c.in_ok-read.ensures.shown))
+    c.judge.ensures)
