@@ -1,5 +1,6 @@
 pub mod StreamLaws
 pub mod SessionLaws
+pub mod ProgressLaws
 pub mod CountLaws
 pub mod MountLaws
 pub mod TopLaws

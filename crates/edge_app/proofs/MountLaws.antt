@@ -1,21 +1,20 @@
 -- The first reason why an image is not mounted, step by step.
-use Rattle.std.proofs.Common.{◌≡◌, ◌≢◌, ℕ, ◌<◌, ◌≤◌, ◌==◌, Bool, true, false, not, cond, List, Option, Some, None, Ok, Err, refl, sym, ap, ◌∙◌, subst, arith, ◌⊎◌, inl, inr}
+use Rattle.std.proofs.Common.{◌≡◌, ◌≢◌, ℕ, ◌+◌, ◌-◌, ◌/◌, ◌^◌, ◌<◌, ◌≤◌, ◌==◌, true, false, not, cond, List, Option, Some, None, Ok, Err, refl, sym, ap, ◌∙◌, subst, ◌⊎◌, inl, inr}
 use Rattle.std.specs.Prelude.{nat_lt, Result}
-use Rattle.std.specs.Result.{result_ok}
+use Rattle.std.specs.List.{list_any, range_with_len}
 use Rattle.std.proofs.lemmas.Bool.{lt-ltb, le-ltb, eq-eqb, eqb-true}
 use Rattle.edge_base.specs.declared.geometry.Request.{Request}
-use Rattle.edge_base.specs.declared.node.Head.{Head}
 use Rattle.edge_base.specs.declared.node.Master.{Master}
 use Rattle.edge_base.specs.declared.node.Metaroot.{Metaroot}
 use Rattle.edge_base.specs.declared.node.NodeFault.{NodeFault}
-use Rattle.edge_base.specs.Spelling.{master_in, metaroot_in, inode_in}
+use Rattle.edge_base.specs.Places.{is_inline_of}
+use Rattle.edge_base.specs.Sizes.{node_bits}
+use Rattle.edge_base.specs.Spelling.{master_in, metaroot_in}
 use Rattle.edge_disk.specs.Image.{Image}
-use Rattle.edge_image.specs.Image.{Live, live_of, live_among, reason_of, reason_of_master, reason_of_live, reason_of_root, root_head_of, root_number, used_place, head_at}
-use Rattle.edge_image.specs.Ready.{IsReady}
+use Rattle.edge_image.specs.Image.{Live, live_of, live_among, reason_of, reason_of_master, reason_of_live, reason_of_counts, has_bad_imap, spells_imap, imap_block_of}
 use Rattle.edge_app.specs.Live.{live_bytes, FindsLive}
-use Rattle.edge_app.specs.Mount.{Judges, Mounts, mounted_as, IsVolume, TellsReady}
+use Rattle.edge_app.specs.Mount.{Judges, Mounts, mounted_as, reason_inline}
 use Rattle.edge_app.specs.declared.mount.Mounted.{Mounted}
-use Rattle.edge_app.specs.declared.mount.Mounted.TheVariants.{NotVolume, Volume}
 
 not_equal : (a b : ℕ) → a ≢ b → (a == b) ≡ false
 not_equal a b apart = elim (a == b) as (λ t. (a == b) ≡ t → t ≡ false) [
@@ -66,77 +65,38 @@ at_place image live (inl one) = ap (λ (n : ℕ). cond (n == 1) (image.block 1) 
 at_place image live (inr two) = ap (λ (n : ℕ). cond (n == 1) (image.block 1) (image.block 2)) two ∙ sym (ap image.block two)
 
 -- what the live metaroot's reason, or none, makes of the image
-pub judge : (g : Request) (found : Option Live) (one two new : List ℕ) (root : Metaroot) (reason : Option ℕ) → FindsLive found one two (Some root) new → reason ≡ reason_of_root g root new
+pub judge : (g : Request) (found : Option Live) (one two new : List ℕ) (root : Metaroot) (reason : Option ℕ) → FindsLive found one two (Some root) new → reason ≡ reason_inline g root new
     → Judges g found one two (mounted_as g reason) new
 judge g None one two new root reason finds is = absurd (cc)
 judge g (Some live) one two new root reason finds is =
     let same : root ≡ live.root = let e = finds.0 in cc in
-    (finds.1, ap (mounted_as g) (is ∙ ap (λ r. reason_of_root g r new) same ∙ ap (reason_of_root g live.root) finds.1))
+    (finds.1, ap (mounted_as g) (is ∙ ap (λ r. reason_inline g r new) same ∙ ap (reason_inline g live.root) finds.1))
 
 mounts_by : (image : Image) (master : Master) (live : Live) (bytes : List ℕ) (reason : Option ℕ) → reason_of image ≡ reason → master_in (image.block 0) ≡ Ok master
     → live_of master.geometry image ≡ Some live → bytes ≡ image.block live.place → Mounts image bytes (mounted_as master.geometry reason)
 mounts_by image master live bytes None is is_master is_live root = record { mounts = is; master = master; is_master = is_master; geometry = refl; live = live; is_live = is_live; root = root }
 mounts_by image master live bytes (Some reason) is is_master is_live root = is
 
-judged_as : (image : Image) (master : Master) (found : Option Live) (told : Mounted) (bytes : List ℕ) → master_in (image.block 0) ≡ Ok master
-    → live_of master.geometry image ≡ found → reason_of image ≡ reason_of_live master.geometry image found → Judges master.geometry found (image.block 1) (image.block 2) told bytes → Mounts image bytes told
-judged_as image master None told bytes is_master is_live is j = subst (Mounts image bytes) (sym j) is
-judged_as image master (Some live) told bytes is_master is_live is j =
-    let at = at_place image live (two_places _ _ live is_live) in
-    subst (Mounts image bytes) (sym (j.1 ∙ ap (λ b. mounted_as master.geometry (reason_of_root master.geometry live.root b)) at))
-    (mounts_by image master live bytes _ is is_master is_live (j.0 ∙ at))
+-- no imap node is bad where the bitmap is inline
+no_bad_imap : (g : Request) (image : Image) (root : List ℕ) → is_inline_of g ≡ true → has_bad_imap g image root ≡ false
+no_bad_imap g image root inline =
+    ap (λ b. list_any (λ i. not (spells_imap g i (image.block (imap_block_of g root i)))) (range_with_len 0 (cond b 0 ((g.blocks - 3 + node_bits g.block_size + 1) / (node_bits g.block_size + 2))))) inline
 
-pub judged : (image : Image) (master : Master) (told : Mounted) (bytes : List ℕ) → 3 ≤ image.blocks → master_in (image.block 0) ≡ Ok master
+inline_reason : (g : Request) (image : Image) (live : Live) → is_inline_of g ≡ true → reason_of_live g image (Some live) ≡ reason_inline g live.root (image.block live.place)
+inline_reason g image live inline = ap (λ b. cond (nat_lt (2 ^ 63) live.root.sequence) (Some 5) (cond b (Some 6) (reason_of_counts g live.root (image.block live.place)))) (no_bad_imap g image (image.block live.place) inline)
+
+judged_as : (image : Image) (master : Master) (found : Option Live) (told : Mounted) (bytes : List ℕ) → is_inline_of master.geometry ≡ true → master_in (image.block 0) ≡ Ok master
+    → live_of master.geometry image ≡ found → reason_of image ≡ reason_of_live master.geometry image found → Judges master.geometry found (image.block 1) (image.block 2) told bytes → Mounts image bytes told
+judged_as image master None told bytes inline is_master is_live is j = subst (Mounts image bytes) (sym j) is
+judged_as image master (Some live) told bytes inline is_master is_live is j =
+    let at = at_place image live (two_places _ _ live is_live) in
+    subst (Mounts image bytes) (sym (j.1 ∙ ap (λ b. mounted_as master.geometry (reason_inline master.geometry live.root b)) at))
+    (mounts_by image master live bytes _ (is ∙ inline_reason master.geometry image live inline) is_master is_live (j.0 ∙ at))
+
+pub judged : (image : Image) (master : Master) (told : Mounted) (bytes : List ℕ) → is_inline_of master.geometry ≡ true → 3 ≤ image.blocks → master_in (image.block 0) ≡ Ok master
     → master.geometry.block_size ≡ image.block_size → master.geometry.blocks ≤ image.blocks
     → Judges master.geometry (live_of master.geometry image) (image.block 1) (image.block 2) told bytes → Mounts image bytes told
-judged image master told bytes enough is_master same fits j = judged_as image master (live_of master.geometry image) told bytes is_master refl (by_live image master enough is_master same fits) j
-
--- ---- readiness
-
--- an image with a reason is not ready, and one without a head of its root isn't either
-pub not_mounted : (image : Image) (reason : ℕ) → reason_of image ≡ Some reason → TellsReady image None
-not_mounted image reason is = λ head ready. let both : Some reason ≡ None = sym is ∙ ready.mounts in absurd (cc)
-
-no_head : (image : Image) (place : Option ℕ) (p : ℕ) (head : Head) → head_at image place ≡ None → place ≡ Some p → inode_in (image.block p) ≡ Ok head → ⊥
-no_head image place p head none at spells =
-    let told : result_ok (inode_in (image.block p)) ≡ None = sym (ap (head_at image) at) ∙ none in
-    let some : Some head ≡ None = sym (ap result_ok spells) ∙ told in
-    cc
-
-a_head : (image : Image) (place : Option ℕ) (head : Head) → head_at image place ≡ Some head → (p : ℕ) × (place ≡ Some p) × (inode_in (image.block p) ≡ Ok head)
-a_head image None head some = absurd (cc)
-a_head image (Some p) head some = (p, refl, spelled (inode_in (image.block p)) some)
-  where
-    spelled : (read : Result Head NodeFault) → result_ok read ≡ Some head → read ≡ Ok head
-    spelled (Ok other) e = let same : other ≡ head = cc in ap Ok same
-    spelled (Err fault) e = absurd (cc)
-
--- the live metaroot that an image is ready with is the one that mounting found
-same_root : (image : Image) (g : Request) (bytes : List ℕ) (volume : IsVolume image g bytes) (head : Head) (ready : IsReady image head)
-    → used_place ready.master.geometry (image.block ready.live.place) root_number ≡ used_place g bytes root_number
-same_root image g bytes volume head ready =
-    let master : ready.master ≡ volume.master = let e = sym ready.is_master ∙ volume.is_master in cc in
-    let geometry : ready.master.geometry ≡ g = ap (λ (m : Master). m.geometry) master ∙ sym volume.geometry in
-    let live : ready.live ≡ volume.live = let e = sym ready.is_live ∙ ap (λ (r : Request). live_of r image) geometry ∙ volume.is_live in cc in
-    ap (λ (r : Request). used_place r (image.block ready.live.place) root_number) geometry
-    ∙ ap (λ (l : Live). used_place g (image.block l.place) root_number) live ∙ ap (λ b. used_place g b root_number) (sym volume.root)
-
--- a volume is ready exactly where its root has a head
-pub ready_by : (image : Image) (g : Request) (bytes : List ℕ) (head : Option Head) → IsVolume image g bytes → root_head_of g image bytes ≡ head → TellsReady image head
-ready_by image g bytes (Some head) volume is =
-    let found = a_head image (used_place g bytes root_number) head is in
-    record {
-      mounts = volume.mounts;
-      master = volume.master;
-      is_master = volume.is_master;
-      live = volume.live;
-      is_live = ap (λ (r : Request). live_of r image) (sym volume.geometry) ∙ volume.is_live;
-      place = found.0;
-      one_place = ap (λ (r : Request). used_place r (image.block volume.live.place) root_number) (sym volume.geometry) ∙ ap (λ b. used_place g b root_number) (sym volume.root) ∙ found.1;
-      spells = found.2;
-    }
-ready_by image g bytes None volume is = λ head ready.
-    no_head image (used_place g bytes root_number) ready.place head is (sym (same_root image g bytes volume head ready) ∙ ready.one_place) ready.spells
+judged image master told bytes inline enough is_master same fits j = judged_as image master (live_of master.geometry image) told bytes inline is_master refl (by_live image master enough is_master same fits) j
 
 -- what was read is what the image holds
 pub judged-same : (g : Request) (a b one two new : List ℕ) (told : Mounted) → a ≡ one → b ≡ two → Judges g (live_among (metaroot_in g a) (metaroot_in g b)) a b told new

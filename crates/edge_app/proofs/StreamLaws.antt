@@ -1,13 +1,12 @@
 -- Lines, and the pieces that they are taken up in.
-use Rattle.std.proofs.Common.{◌≡◌, ℕ, zero, suc, ◌+◌, ◌-◌, ◌<◌, ◌≤◌, ◌++◌, ◌&&◌, not, Bool, true, false, cond, eqb, List, [], ◌∷◌, length, take, drop, min, refl, sym, ap, ◌∙◌, subst, arith, append_assoc, inl, inr, Some, None, get_or}
-use Rattle.std.specs.Prelude.{if◌then◌else◌}
+use Rattle.std.proofs.Common.{◌≡◌, ℕ, zero, suc, ◌+◌, ◌-◌, ◌<◌, ◌≤◌, ◌++◌, ◌&&◌, not, Bool, true, false, cond, List, [], ◌∷◌, length, take, drop, min, refl, sym, ap, ◌∙◌, subst, arith, append_assoc, inl, inr, Some, None, get_or}
 use Rattle.std.specs.List.{list_all, position_or_len, position}
-use Rattle.std.proofs.lemmas.List.{length-take-le, take_min, take-take, take_all, length-append, take-append-le, append-nil, take_at, drop_at, drop-drop, take-append-drop, get_or-take, drop_more, length-drop, drop_all}
+use Rattle.std.proofs.lemmas.Bool.{eqb-true, cases_lt, lt-ltb, le-ltb}
+use Rattle.std.proofs.lemmas.List.{length-take-le, take_min, take-take, take_all, length-append, take-append-le, append-nil, drop-drop, take-append-drop, get_or-take, drop_more, length-drop}
 use Rattle.std.proofs.lemmas.Slice.{between_is}
 use Rattle.std.proofs.Math.Seq.{take-append-add}
-use Rattle.std.proofs.lemmas.Bool.{eqb-true, cases_lt, lt-ltb, le-ltb}
 use Rattle.edge_app.specs.Script.{lines_of, onto_first_line}
-use Rattle.edge_app.specs.Feeds.{is_line_feed, HasNoLineFeed, first_line, after_line, kept_part, TakesLine, HasBegun, GoesOn}
+use Rattle.edge_app.specs.Feeds.{is_line_feed, HasNoLineFeed, kept_part, TakesLine, HasBegun, GoesOn}
 
 false_not_true : false ≡ true → ⊥
 false_not_true e = cc
@@ -34,21 +33,6 @@ no_feed-append (x ∷ a) b h k = elim (is_line_feed x) as (λ t. (not t && list_
   | false ↦ λ e. no_feed-append a b e k
 ] h
 
--- the first line feed behind a line stands right behind it
-feed_at : (line rest : List ℕ) → HasNoLineFeed line → position_or_len is_line_feed (line ++ 10 ∷ rest) ≡ length line
-feed_at [] rest h = refl
-feed_at (x ∷ line) rest h = elim (is_line_feed x) as (λ t. (not t && list_all (λ byte. not (is_line_feed byte)) line) ≡ true → cond (not t) (1 + position_or_len is_line_feed (line ++ 10 ∷ rest)) 0 ≡ suc (length line)) [
-  | true ↦ λ e. absurd (false_not_true e)
-  | false ↦ λ e. let below = feed_at line rest e in omega arith
-] h
-
-no_feed-len : (line : List ℕ) → HasNoLineFeed line → position_or_len is_line_feed line ≡ length line
-no_feed-len [] h = refl
-no_feed-len (x ∷ line) h = elim (is_line_feed x) as (λ t. (not t && list_all (λ byte. not (is_line_feed byte)) line) ≡ true → cond (not t) (1 + position_or_len is_line_feed line) 0 ≡ suc (length line)) [
-  | true ↦ λ e. absurd (false_not_true e)
-  | false ↦ λ e. let below = no_feed-len line e in omega arith
-] h
-
 -- there is none before the first, and where there is none, there is none at all
 no_feed-before : (bytes : List ℕ) → HasNoLineFeed (take (position_or_len is_line_feed bytes) bytes)
 no_feed-before [] = refl
@@ -58,34 +42,26 @@ no_feed-before (x ∷ bytes) = elim (is_line_feed x) as (λ t. is_line_feed x �
       (subst (λ t. (not t && list_all (λ byte. not (is_line_feed byte)) (take (position_or_len is_line_feed bytes) bytes)) ≡ true) (sym e) (no_feed-before bytes))
 ] refl
 
--- a line and its line feed make the first line
-pub first_line-feed : (line rest : List ℕ) → HasNoLineFeed line → first_line (line ++ 10 ∷ rest) ≡ line
-first_line-feed line rest h = ap (λ (n : ℕ). take n (line ++ 10 ∷ rest)) (feed_at line rest h) ∙ take_at line (10 ∷ rest) (length line) refl
+-- a line and its line feed are the first of the lines
+pub lines_of-feed : (line rest : List ℕ) → HasNoLineFeed line → lines_of (line ++ 10 ∷ rest) ≡ line ∷ lines_of rest
+lines_of-feed [] rest h = refl
+lines_of-feed (x ∷ line) rest h = elim (is_line_feed x) as (λ t. (not t && list_all (λ byte. not (is_line_feed byte)) line) ≡ true
+    → cond t ([] ∷ lines_of (line ++ 10 ∷ rest)) (onto_first_line x (lines_of (line ++ 10 ∷ rest))) ≡ (x ∷ line) ∷ lines_of rest) [
+      | true ↦ λ e. absurd (false_not_true e)
+      | false ↦ λ e. ap (onto_first_line x) (lines_of-feed line rest e)
+    ] h
 
-pub after_line-feed : (line rest : List ℕ) → HasNoLineFeed line → after_line (line ++ 10 ∷ rest) ≡ rest
-after_line-feed line rest h =
-    ap (λ (n : ℕ). drop (n + 1) (line ++ 10 ∷ rest)) (feed_at line rest h)
-    ∙ sym (drop-drop 1 (length line) (line ++ 10 ∷ rest)) ∙ ap (drop 1) (drop_at line (10 ∷ rest) (length line) refl)
-
-longer : (x : ℕ) (rest : List ℕ) → (0 < length rest → lines_of rest ≡ first_line rest ∷ lines_of (after_line rest))
-    → onto_first_line x (lines_of rest) ≡ take (1 + position_or_len is_line_feed rest) (x ∷ rest) ∷ lines_of (drop (1 + position_or_len is_line_feed rest + 1) (x ∷ rest))
-longer x [] below = refl
-longer x (y ∷ ys) below =
-    let p = position_or_len is_line_feed (y ∷ ys) in
-    let one : suc p ≡ 1 + p = omega arith in
-    let two : suc (p + 1) ≡ 1 + p + 1 = omega arith in
-    ap (onto_first_line x) (below (omega arith))
-    ∙ ap (λ (n : ℕ). take n (x ∷ y ∷ ys) ∷ lines_of (drop (p + 1) (y ∷ ys))) one
-    ∙ ap (λ (n : ℕ). take (1 + p) (x ∷ y ∷ ys) ∷ lines_of (drop n (x ∷ y ∷ ys))) two
-
--- the lines are the first line and those after it
-pub lines_of-first : (bytes : List ℕ) → 0 < length bytes → lines_of bytes ≡ first_line bytes ∷ lines_of (after_line bytes)
-lines_of-first [] some = absurd (omega arith)
-lines_of-first (x ∷ rest) some = elim (is_line_feed x) as (λ t. cond t ([] ∷ lines_of rest) (onto_first_line x (lines_of rest))
-    ≡ take (cond (not t) (1 + position_or_len is_line_feed rest) 0) (x ∷ rest) ∷ lines_of (drop (cond (not t) (1 + position_or_len is_line_feed rest) 0 + 1) (x ∷ rest))) [
-      | true ↦ refl
-      | false ↦ longer x rest (lines_of-first rest)
-    ]
+-- a rest without a line feed is one line
+pub lines_of-rest : (x : ℕ) (line : List ℕ) → HasNoLineFeed (x ∷ line) → lines_of (x ∷ line) ≡ (x ∷ line) ∷ []
+lines_of-rest x [] h = elim (is_line_feed x) as (λ t. (not t && true) ≡ true → cond t ([] ∷ []) ((x ∷ []) ∷ []) ≡ (x ∷ []) ∷ []) [
+  | true ↦ λ e. absurd (false_not_true e)
+  | false ↦ λ e. refl
+] h
+lines_of-rest x (y ∷ line) h = elim (is_line_feed x) as (λ t. (not t && list_all (λ byte. not (is_line_feed byte)) (y ∷ line)) ≡ true
+    → cond t ([] ∷ lines_of (y ∷ line)) (onto_first_line x (lines_of (y ∷ line))) ≡ (x ∷ y ∷ line) ∷ []) [
+      | true ↦ λ e. absurd (false_not_true e)
+      | false ↦ λ e. ap (onto_first_line x) (lines_of-rest y line e)
+    ] h
 
 -- ---- pieces
 
@@ -114,30 +90,30 @@ feed_there (x ∷ s) below = elim (is_line_feed x) as (λ t. is_line_feed x ≡ 
 ] refl below
 
 -- what a piece with a line feed at i makes of the line that has begun
-goes_ended : (left kept new : List ℕ) (n i : ℕ) → n ≤ length left → position is_line_feed (take n left) ≡ Some i → new ≡ kept_part (kept ++ take i left)
-    → GoesOn true left (drop (i + 1) left) kept new (i + 1)
-goes_ended left kept new n i inside e is =
-    let at = found (take n left) i e in
+pub ended : (left after kept mid new piece : List ℕ) (n i used_before used_after : ℕ) → piece ≡ take n left → n ≤ length left → Some i ≡ position is_line_feed piece
+    → mid ≡ kept_part (kept ++ take i left) → after ≡ drop (i + 1) left → new ≡ mid → used_after ≡ used_before + (i + 1) → GoesOn true left after kept new used_before used_after
+ended left after kept mid new piece n i used_before used_after is inside at kept_mid rest same count =
+    let there = found (take n left) i (ap (position is_line_feed) (sym is) ∙ sym at) in
     let short = length-take-le n left inside in
-    let below : i < n = omega (arith, at.1, short) in
+    let below : i < n = omega (arith, there.1, short) in
     let feed : get_or left i 0 ≡ 10 =
-    sym (get_or-take n left i 0 below) ∙ ap (λ (k : ℕ). get_or (take n left) k 0) (sym at.0)
-    ∙ feed_there (take n left) (omega (arith, at.0, at.1)) in
+    sym (get_or-take n left i 0 below) ∙ ap (λ (k : ℕ). get_or (take n left) k 0) (sym there.0)
+    ∙ feed_there (take n left) (omega (arith, there.0, there.1)) in
     record {
       piece = take i left;
-      no_feed = subst HasNoLineFeed (ap (λ (k : ℕ). take k (take n left)) at.0 ∙ take-take i n left (omega arith)) (no_feed-before (take n left));
-      split = sym (take-append-drop i left) ∙ ap (λ r. take i left ++ r) (drop_more left i 0 (omega arith) ∙ ap (λ (byte : ℕ). byte ∷ drop (i + 1) left) feed);
-      kept_is = is;
+      no_feed = subst HasNoLineFeed (ap (λ (k : ℕ). take k (take n left)) there.0 ∙ take-take i n left (omega arith)) (no_feed-before (take n left));
+      split = sym (take-append-drop i left) ∙ ap (λ r. take i left ++ r) (drop_more left i 0 (omega arith) ∙ ap (λ (byte : ℕ). byte ∷ drop (i + 1) left) feed ∙ ap (λ r. 10 ∷ r) (sym rest));
+      kept_is = same ∙ kept_mid;
       count = let e : length (take i left) ≡ i = length-take-le i left (omega arith) in omega arith;
     }
 
-goes_begun : (left kept new : List ℕ) (n : ℕ) → n ≤ length left → position is_line_feed (take n left) ≡ None → new ≡ kept_part (kept ++ take n left)
-    → GoesOn false left (drop n left) kept new n
-goes_begun left kept new n inside e is = record {
+pub begun : (left after kept mid new piece : List ℕ) (n used_before used_after : ℕ) → piece ≡ take n left → n ≤ length left → None ≡ position is_line_feed piece
+    → mid ≡ kept_part (kept ++ take n left) → after ≡ drop n left → new ≡ mid → used_after ≡ used_before + n → GoesOn false left after kept new used_before used_after
+begun left after kept mid new piece n used_before used_after is inside at kept_mid rest same count = record {
   piece = take n left;
-  no_feed = subst HasNoLineFeed (take_all _ (take n left) (found_none (take n left) e)) (no_feed-before (take n left));
-  split = sym (take-append-drop n left);
-  kept_is = is;
+  no_feed = subst HasNoLineFeed (take_all _ (take n left) (found_none (take n left) (ap (position is_line_feed) (sym is) ∙ sym at))) (no_feed-before (take n left));
+  split = sym (take-append-drop n left) ∙ ap (λ r. take n left ++ r) (sym rest);
+  kept_is = same ∙ kept_mid;
   count = let e : length (take n left) ≡ n = length-take-le n left inside in omega arith;
 }
 
@@ -169,20 +145,6 @@ pub length-pending : (at end : ℕ) (input from : List ℕ) → from ≡ input �
 length-pending at end input from same inside =
     length-take-le (end - at) (drop at input) (omega (arith, length-drop at input, ap length same))
 
-pub ended : (left after kept mid new piece : List ℕ) (n i before_used after_used : ℕ) → piece ≡ take n left → n ≤ length left → Some i ≡ position is_line_feed piece
-    → mid ≡ kept_part (kept ++ take i left) → after ≡ drop (i + 1) left → new ≡ mid → after_used ≡ before_used + (i + 1) → GoesOn true left after kept new (after_used - before_used)
-ended left after kept mid new piece n i before_used after_used is inside at kept_mid rest same count =
-    let told = goes_ended left kept new n i inside (ap (position is_line_feed) (sym is) ∙ sym at) (same ∙ kept_mid) in
-    let used : i + 1 ≡ after_used - before_used = omega arith in
-    subst (λ (k : ℕ). GoesOn true left after kept new k) used (subst (λ r. GoesOn true left r kept new (i + 1)) (sym rest) told)
-
-pub begun : (left after kept mid new piece : List ℕ) (n before_used after_used : ℕ) → piece ≡ take n left → n ≤ length left → None ≡ position is_line_feed piece
-    → mid ≡ kept_part (kept ++ take n left) → after ≡ drop n left → new ≡ mid → after_used ≡ before_used + n → GoesOn false left after kept new (after_used - before_used)
-begun left after kept mid new piece n before_used after_used is inside at kept_mid rest same count =
-    let told = goes_begun left kept new n inside (ap (position is_line_feed) (sym is) ∙ sym at) (same ∙ kept_mid) in
-    let used : n ≡ after_used - before_used = omega arith in
-    subst (λ (k : ℕ). GoesOn false left after kept new k) used (subst (λ r. GoesOn false left r kept new n) (sym rest) told)
-
 -- the front of a list that was written back whole
 pub written_back : (r len : ℕ) (new old : List ℕ) → length new ≡ len → r ≤ length new → take r (take len (new ++ drop (length new) old)) ≡ take r new
 written_back r len new old whole inside = take-take r len (new ++ drop (length new) old) (omega arith) ∙ take-append-le r new (drop (length new) old) inside
@@ -190,17 +152,17 @@ written_back r len new old whole inside = take-take r len (new ++ drop (length n
 -- ---- a line, piece by piece
 
 -- no byte of the line has been taken up yet
-pub not_begun : (left kept : List ℕ) → kept ≡ [] → HasBegun left left kept 0
+pub not_begun : (left kept : List ℕ) (used : ℕ) → kept ≡ [] → HasBegun left left kept used used
 unfolding kept_part
-not_begun left kept none = record { begun = []; split = refl; no_feed = refl; kept_is = none; count = refl }
+not_begun left kept used none = record { begun = []; split = refl; no_feed = refl; kept_is = none; count = omega arith }
 
 kept_more : (line more kept : List ℕ) → kept ≡ kept_part line → kept_part (kept ++ more) ≡ kept_part (line ++ more)
 unfolding kept_part
 kept_more line more kept is = ap (λ k. take 8210 (k ++ more)) is ∙ kept_part-more 8210 line more
 
-pub begun-more : (before held left kept held_after kept_after : List ℕ) (n m : ℕ) → HasBegun before (held ++ left) kept n → GoesOn false held held_after kept kept_after m
-    → HasBegun before (held_after ++ left) kept_after (n + m)
-begun-more before held left kept held_after kept_after n m b g = record {
+pub begun-more : (before held left kept held_after kept_after : List ℕ) (first used used_after : ℕ) → HasBegun before (held ++ left) kept first used
+    → GoesOn false held held_after kept kept_after used used_after → HasBegun before (held_after ++ left) kept_after first used_after
+begun-more before held left kept held_after kept_after first used used_after b g = record {
   begun = b.begun ++ g.piece;
   split = b.split ∙ ap (λ h. b.begun ++ (h ++ left)) g.split ∙ ap (λ r. b.begun ++ r) (append_assoc g.piece held_after left) ∙ sym (append_assoc b.begun g.piece (held_after ++ left));
   no_feed = no_feed-append b.begun g.piece b.no_feed g.no_feed;
@@ -208,9 +170,9 @@ begun-more before held left kept held_after kept_after n m b g = record {
   count = let e = length-append b.begun g.piece in let c = b.count in let d = g.count in omega arith;
 }
 
-pub begun-end : (before held left kept held_after kept_after : List ℕ) (n m : ℕ) → HasBegun before (held ++ left) kept n → GoesOn true held held_after kept kept_after m
-    → TakesLine before (held_after ++ left) kept_after (n + m)
-begun-end before held left kept held_after kept_after n m b g =
+pub begun-end : (before held left kept held_after kept_after : List ℕ) (seen : Bool) (first used used_after : ℕ) → HasBegun before (held ++ left) kept first used
+    → GoesOn true held held_after kept kept_after used used_after → TakesLine before (held_after ++ left) kept_after seen first used_after
+begun-end before held left kept held_after kept_after seen first used used_after b g =
     let line = b.begun ++ g.piece in
     let no_feed = no_feed-append b.begun g.piece b.no_feed g.no_feed in
     let split : before ≡ line ++ 10 ∷ (held_after ++ left) =
@@ -221,30 +183,39 @@ begun-end before held left kept held_after kept_after n m b g =
     let c = b.count in
     let d = g.count in
     record {
-      some = omega arith;
-      kept_is = g.kept_is ∙ kept_more b.begun g.piece kept b.kept_is ∙ ap kept_part (sym (ap first_line split ∙ first_line-feed line (held_after ++ left) no_feed));
-      rest = sym (ap after_line split ∙ after_line-feed line (held_after ++ left) no_feed);
-      count = omega arith;
+      line = line;
+      takes = record {
+        no_feed = no_feed;
+        lines = ap lines_of split ∙ lines_of-feed line (held_after ++ left) no_feed;
+        bytes = inl split;
+        used = omega arith;
+      };
+      kept_is = g.kept_is ∙ kept_more b.begun g.piece kept b.kept_is;
     }
 
+one_line : (bytes : List ℕ) → HasNoLineFeed bytes → 0 < length bytes → lines_of bytes ≡ bytes ∷ []
+one_line [] h some = absurd (omega arith)
+one_line (x ∷ bytes) h some = lines_of-rest x bytes h
+
 -- what has begun where the script ends is a line
-pub begun-last : (before left kept : List ℕ) (n : ℕ) → HasBegun before left kept n → left ≡ [] → 0 < n → TakesLine before left kept n
-begun-last before left kept n b none some =
+pub begun-last : (before left kept : List ℕ) (seen : Bool) (first used : ℕ) → HasBegun before left kept first used → left ≡ [] → seen ≡ true → first < used → TakesLine before left kept seen first used
+begun-last before left kept seen first used b none is_seen some =
     let split : before ≡ b.begun = b.split ∙ ap (λ r. b.begun ++ r) none ∙ append-nil b.begun in
-    let at = ap (position_or_len is_line_feed) split ∙ no_feed-len b.begun b.no_feed in
     let c = b.count in
     let whole = ap length split in
     record {
-      some = omega arith;
-      kept_is = b.kept_is ∙ ap kept_part (sym split ∙ sym (take_all _ before (omega arith)));
-      rest = none ∙ sym (drop_all _ before (omega arith));
-      count = omega (arith, ap length none);
+      line = b.begun;
+      takes = record {
+        no_feed = b.no_feed;
+        lines = ap lines_of split ∙ one_line b.begun b.no_feed (omega arith) ∙ ap (λ (l : List ℕ). b.begun ∷ lines_of l) (sym none);
+        bytes = inr (split, none, is_seen);
+        used = omega (arith, ap length none);
+      };
+      kept_is = b.kept_is;
     }
 
 -- the same for what a further look at the source leaves
-pub begun-same : (before left kept other_left other_kept : List ℕ) (n m : ℕ) → HasBegun before left kept n → other_left ≡ left → other_kept ≡ kept → m ≡ n → HasBegun before other_left other_kept m
-begun-same before left kept other_left other_kept n m b same_left same_kept same =
+pub begun-same : (before left kept other_left other_kept : List ℕ) (first n m : ℕ) → HasBegun before left kept first n → other_left ≡ left → other_kept ≡ kept → m ≡ n
+    → HasBegun before other_left other_kept first m
+begun-same before left kept other_left other_kept first n m b same_left same_kept same =
     record { begun = b.begun; split = b.split ∙ ap (λ r. b.begun ++ r) (sym same_left); no_feed = b.no_feed; kept_is = same_kept ∙ b.kept_is; count = same ∙ b.count }
-
-pub line-same : (before left kept : List ℕ) (n m : ℕ) → TakesLine before left kept n → m ≡ n → TakesLine before left kept m
-line-same before left kept n m t same = subst (λ (k : ℕ). TakesLine before left kept k) (sym same) t

@@ -1,19 +1,54 @@
--- What a session's end says of all the replies.
-use Rattle.std.proofs.Common.{◌≡◌, ℕ, zero, suc, ◌+◌, ◌<◌, ◌++◌, List, [], ◌∷◌, length, take, drop, Some, None, Ok, refl, sym, ap, ◌∙◌, subst, arith, append_assoc, get_or}
-use Rattle.std.specs.List.{flat_map}
+-- What the end of a session says of all the replies, where the image is ready.
+use Rattle.std.proofs.Common.{◌≡◌, ℕ, zero, suc, ◌+◌, ◌<◌, ◌++◌, ◌⊎◌, inl, inr, Bool, true, false, List, [], ◌∷◌, length, take, drop, Some, Ok, refl, sym, ap, ◌∙◌, subst, arith, append_assoc}
 use Rattle.std.proofs.lemmas.List.{take_at, take_all, take-append-le, drop_more}
 use Rattle.std.proofs.Math.Seq.{take-append-add}
 use Rattle.edge_base.specs.declared.geometry.Request.{Request}
 use Rattle.edge_base.specs.declared.node.Head.{Head}
 use Rattle.edge_base.specs.declared.node.Master.{Master}
-use Rattle.edge_base.specs.Spelling.{inode_in}
-use Rattle.edge_disk.specs.Image.{Image}
-use Rattle.edge_image.specs.Image.{Live, live_of, used_place, root_number}
+use Rattle.edge_base.specs.Places.{inode_place_of}
+use Rattle.edge_disk.specs.Disk.{Origin}
+use Rattle.edge_disk.specs.Image.{Image, shown_image}
+use Rattle.edge_image.specs.Image.{Live, live_of, is_used, used_place, place_of, head_of, head_told, head_by, root_number}
 use Rattle.edge_image.specs.Ready.{IsReady}
-use Rattle.edge_app.specs.Script.{lines_of, reply_to, replies_to}
-use Rattle.edge_app.specs.Session.{replies_before, reply_at, TookReplies, AnsweredLines}
+use Rattle.edge_app.specs.Mount.{IsVolume}
+use Rattle.edge_app.specs.Part.{TookPart}
+use Rattle.edge_app.specs.Report.{EndsBy}
+use Rattle.edge_app.specs.declared.report.Report.{Report}
+use Rattle.edge_app.specs.Script.{lines_of, line_at, reply_to, replies_to, reply_with, replies_before}
+use Rattle.edge_app.specs.Session.{Ran}
 use Rattle.edge_app.specs.declared.session.How.{How}
-use Rattle.edge_app.specs.declared.session.How.TheVariants.{End, Source, Sink, Limit}
+use Rattle.edge_app.specs.declared.session.How.TheVariants.{End, Source, Sink, Limit, Device, Damaged}
+
+-- ---- the root of a ready image
+
+either : (b : Bool) → (b ≡ true) ⊎ (b ≡ false)
+either true = inl refl
+either false = inr refl
+
+used_is_place : (g : Request) (root : List ℕ) (number place : ℕ) → used_place g root number ≡ Some place → place_of g root number ≡ Ok place
+used_is_place g root number place e =
+    let first = is_used g root (inode_place_of g number false) in
+    let second = is_used g root (inode_place_of g number true) in
+    elim (either first) [
+      | inl f ↦ elim (either second) [ inl s ↦ cc | inr s ↦ cc ]
+      | inr f ↦ elim (either second) [ inl s ↦ cc | inr s ↦ cc ]
+    ]
+
+pub ready_root : (image : Image) (g : Request) (root : List ℕ) (head : Head) → IsReady image head → IsVolume image g root → head_of g image root root_number ≡ Ok head
+ready_root image g root head ready volume =
+    let master : ready.master ≡ volume.master = let e = sym ready.is_master ∙ volume.is_master in cc in
+    let geometry : ready.master.geometry ≡ g = ap (λ (m : Master). m.geometry) master ∙ sym volume.geometry in
+    let live : ready.live ≡ volume.live = let e = sym ready.is_live ∙ ap (λ (r : Request). live_of r image) geometry ∙ volume.is_live in cc in
+    let bytes : image.block ready.live.place ≡ root = ap (λ (l : Live). image.block l.place) live ∙ sym volume.root in
+    let place : place_of ready.master.geometry (image.block ready.live.place) root_number ≡ Ok ready.place =
+    used_is_place ready.master.geometry (image.block ready.live.place) root_number ready.place ready.one_place in
+    sym (ap (λ (r : Request). head_of r image (image.block ready.live.place) root_number) geometry ∙ ap (λ b. head_of g image b root_number) bytes)
+    ∙ ap (head_by image) place ∙ ap (head_told ready.place) ready.spells
+
+root_then : (image image_then : Image) → image_then ≡ image → (g : Request) (root : List ℕ) (head : Head) → IsReady image head → IsVolume image g root → head_of g image_then root root_number ≡ Ok head
+root_then image image_then same g root head ready volume = ap (λ i. head_of g i root root_number) same ∙ ready_root image g root head ready volume
+
+-- ---- fronts of all the replies
 
 -- the replies are those to the first lines, and those to the rest
 replies-split : (head : Head) (k : ℕ) (lines : List (List ℕ)) → replies_to head lines ≡ replies_to head (take k lines) ++ replies_to head (drop k lines)
@@ -26,45 +61,61 @@ replies-split head (suc k) (line ∷ lines) =
 abbrev pub IsFront : Head → List ℕ → List ℕ → List ℕ → Type 0
 IsFront head script before after = (n : ℕ) × (after ≡ before ++ take n (replies_to head (lines_of script)))
 
-first_lines : (head : Head) (script : List ℕ) (k : ℕ) (before after : List ℕ) → after ≡ before ++ replies_before head script k → IsFront head script before after
+first_lines : (head : Head) (script : List ℕ) (k : ℕ) (before after : List ℕ) → after ≡ before ++ replies_before (Ok head) script k → IsFront head script before after
 first_lines head script k before after e =
     let whole = replies-split head k (lines_of script) in (
-      length (replies_before head script k),
-      e ∙ ap (λ r. before ++ r) (sym (ap (take (length (replies_before head script k))) whole
-          ∙ take_at (replies_before head script k) (replies_to head (drop k (lines_of script))) _ refl)),
+      length (replies_before (Ok head) script k),
+      e ∙ ap (λ r. before ++ r) (sym (ap (take (length (replies_before (Ok head) script k))) whole
+          ∙ take_at (replies_before (Ok head) script k) (replies_to head (drop k (lines_of script))) _ refl)),
     )
 
-pub is_front : (how : How) (head : Head) (script : List ℕ) (k : ℕ) (before after : List ℕ) → TookReplies how head script k before after → IsFront head script before after
-is_front End head script k before after took = first_lines head script k before after took
-is_front Source head script k before after took = first_lines head script k before after took
-is_front Limit head script k before after took = first_lines head script k before after took
-is_front Sink head script k before after took =
-    let told = replies_before head script k in
-    let part = took.1 in
-    let next = reply_at head script k in
+first_lines_and_part : (head : Head) (script : List ℕ) (k : ℕ) (before after : List ℕ) → k < length (lines_of script)
+    → TookPart (reply_with (Ok head) (line_at script k)) (before ++ replies_before (Ok head) script k) after → IsFront head script before after
+first_lines_and_part head script k before after inside_script part =
+    let told = replies_before (Ok head) script k in
+    let next = reply_to head (line_at script k) in
     let rest = replies_to head (drop (k + 1) (lines_of script)) in
     let whole : replies_to head (lines_of script) ≡ told ++ (next ++ rest) =
-    replies-split head k (lines_of script) ∙ ap (λ ls. told ++ replies_to head ls) (drop_more (lines_of script) k [] took.0) in
+    replies-split head k (lines_of script) ∙ ap (λ ls. told ++ replies_to head ls) (drop_more (lines_of script) k [] inside_script) in
     let front : take (length told + part.count) (told ++ (next ++ rest)) ≡ told ++ take part.count (next ++ rest) = take-append-add told (next ++ rest) part.count in
     let inside : take part.count (next ++ rest) ≡ take part.count next = take-append-le part.count next rest (let h = part.not_all in omega arith) in
     (length told + part.count, part.took ∙ append_assoc before told (take part.count next) ∙ ap (λ r. before ++ r) (sym (ap (take (length told + part.count)) whole ∙ front ∙ ap (λ r. told ++ r) inside)))
 
--- with every line answered these are all the replies
-pub is_whole : (how : How) (head : Head) (script : List ℕ) (k : ℕ) (before after : List ℕ) → how ≡ End → AnsweredLines how script k → TookReplies how head script k before after
-    → after ≡ before ++ replies_to head (lines_of script)
-is_whole how head script k before after ended answered took =
-    let all : k ≡ length (lines_of script) = subst (λ h. AnsweredLines h script k) ended answered in
-    let told : after ≡ before ++ replies_before head script k = subst (λ h. TookReplies h head script k before after) ended took in
-    told ∙ ap (λ ls. before ++ replies_to head ls) (take_all k (lines_of script) (omega arith))
+front_of : (how : How) (head : Head) (script left : List ℕ) (k taken : ℕ) (before after : List ℕ) → Ran how (Ok head) script left k taken before after → IsFront head script before after
+front_of End head script left k taken before after ran = first_lines head script k before after ran.replies
+front_of Source head script left k taken before after ran = first_lines head script k before after ran.replies
+front_of Limit head script left k taken before after ran = first_lines head script k before after ran.replies
+front_of Device head script left k taken before after ran = first_lines head script k before after ran.replies
+front_of (Damaged damage) head script left k taken before after ran = first_lines head script k before after ran.replies
+front_of Sink head script left k taken before after ran = first_lines_and_part head script k before after ran.answered.inside ran.replies
 
--- an image is ready with one head
-pub one_head : (image : Image) (a b : Head) → IsReady image a → IsReady image b → a ≡ b
-one_head image a b one two =
-    let master : one.master ≡ two.master = let e = sym one.is_master ∙ two.is_master in cc in
-    let geometry : one.master.geometry ≡ two.master.geometry = ap (λ (m : Master). m.geometry) master in
-    let live : one.live ≡ two.live = let e = sym one.is_live ∙ ap (λ (r : Request). live_of r image) geometry ∙ two.is_live in cc in
-    let place : one.place ≡ two.place =
-    let e = sym one.one_place ∙ ap (λ (r : Request). used_place r (image.block one.live.place) root_number) geometry
-    ∙ ap (λ (l : Live). used_place two.master.geometry (image.block l.place) root_number) live ∙ two.one_place in cc in
-    let e : Ok a ≡ Ok b = sym one.spells ∙ ap (λ (p : ℕ). inode_in (image.block p)) place ∙ two.spells in
-    cc
+pub is_front : (image image_then : Image) → image_then ≡ image → (g : Request) (root : List ℕ) (head : Head) → IsReady image head → IsVolume image g root → (how : How) (script left : List ℕ) (k taken : ℕ) (before after : List ℕ)
+    → Ran how (head_of g image_then root root_number) script left k taken before after → IsFront head script before after
+is_front image image_then same g root head ready volume how script left k taken before after ran =
+    front_of how head script left k taken before after (subst (λ r. Ran how r script left k taken before after) (root_then image image_then same g root head ready volume) ran)
+
+-- with every line answered these are all the replies
+whole_of : (head : Head) (script left : List ℕ) (k taken : ℕ) (before after : List ℕ) → Ran End (Ok head) script left k taken before after → after ≡ before ++ replies_to head (lines_of script)
+whole_of head script left k taken before after ran =
+    let all = ran.answered.0 in
+    ran.replies ∙ ap (λ ls. before ++ replies_to head ls) (take_all k (lines_of script) (omega arith))
+
+pub is_whole : (image image_then : Image) → image_then ≡ image → (g : Request) (root : List ℕ) (head : Head) → IsReady image head → IsVolume image g root → (how : How) (script left : List ℕ) (k taken : ℕ) (before after : List ℕ) → how ≡ End
+    → Ran how (head_of g image_then root root_number) script left k taken before after → after ≡ before ++ replies_to head (lines_of script)
+is_whole image image_then same g root head ready volume how script left k taken before after ended ran =
+    whole_of head script left k taken before after
+    (subst (λ r. Ran End r script left k taken before after) (root_then image image_then same g root head ready volume) (subst (λ h. Ran h (head_of g image_then root root_number) script left k taken before after) ended ran))
+
+-- ---- what stands in the report
+
+pub same_image : (origin origin_then : Origin) (shown shown_then : ℕ → List ℕ) → origin_then ≡ origin → shown_then ≡ shown → shown_image origin_then shown_then ≡ shown_image origin shown
+same_image origin origin_then shown shown_then o s = ap (λ w. shown_image w shown_then) o ∙ ap (shown_image origin) s
+
+-- status 0 is an end of the script
+pub ended_by : (how : How) (r : Report) → EndsBy how r → r.status ≡ 0 → how ≡ End
+ended_by End r ends done = refl
+ended_by Source r ends done = absurd (let e = ends.0 in omega arith)
+ended_by Sink r ends done = absurd (let e = ends.0 in omega arith)
+ended_by Device r ends done = absurd (let e = ends.0 in omega arith)
+ended_by (Damaged damage) r ends done = absurd (let e = ends.0 in omega arith)
+ended_by Limit r ends done = absurd (let e = ends.0 in omega arith)

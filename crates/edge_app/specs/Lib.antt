@@ -2,9 +2,11 @@ pub mod Words
 pub mod Script
 pub mod Feeds
 pub mod Stream
-pub mod Part
-pub mod Turn
-pub mod Session
 pub mod Live
 pub mod Mount
+pub mod Volume
+pub mod Part
+pub mod Session
+pub mod Turn
+pub mod Reply
 pub mod Report

@@ -1,10 +1,13 @@
 -- The text of a script and of the replies to it.
-use Rattle.std.specs.Prelude.{ℕ, ◌==◌, if◌then◌else◌, List, [], ◌∷◌, ◌++◌, codes, decimal}
+use Rattle.std.specs.Prelude.{◌≡◌, ℕ, ◌==◌, ◌&&◌, not, Bool, false, if◌then◌else◌, List, [], ◌∷◌, ◌++◌, length, take, slice_index_or, Result, Ok, Err, codes, decimal}
 use Rattle.std.specs.List.{flat_map}
 use Rattle.std.specs.Str.{bytes_eq}
+use Rattle.edge_base.specs.declared.damage.Damage.{Damage}
 use Rattle.edge_base.specs.declared.node.Head.{Head}
 use Rattle.edge_base.specs.declared.node.NodeType.{NodeType}
 use Rattle.edge_base.specs.declared.node.NodeType.TheVariants.{File, Directory}
+
+-- ---- lines
 
 -- a byte at the front of the first line
 abbrev pub onto_first_line : ℕ → List (List ℕ) → List (List ℕ)
@@ -16,6 +19,26 @@ abbrev pub lines_of : List ℕ → List (List ℕ)
 lines_of [] = []
 lines_of (byte ∷ script) = if byte == 10 then [] ∷ lines_of script else onto_first_line byte (lines_of script)
 
+-- a byte at the front of the first line, where there is one
+abbrev pub onto_whole_line : ℕ → List (List ℕ) → List (List ℕ)
+onto_whole_line byte [] = []
+onto_whole_line byte (line ∷ lines) = (byte ∷ line) ∷ lines
+
+-- the lines that end with a line feed
+abbrev pub whole_lines : List ℕ → List (List ℕ)
+whole_lines [] = []
+whole_lines (byte ∷ script) = if byte == 10 then [] ∷ whole_lines script else onto_whole_line byte (whole_lines script)
+
+-- The lines of the first bytes of a script. A rest behind their last line feed is a line where these are all the bytes, and the source has not failed.
+abbrev pub lines_taken : List ℕ → ℕ → Bool → List (List ℕ)
+lines_taken script taken failed = if (taken == length script) && not failed then lines_of script else whole_lines (take taken script)
+
+-- line k of a script, from 0
+abbrev pub line_at : List ℕ → ℕ → List ℕ
+line_at script k = slice_index_or (lines_of script) k []
+
+-- ---- replies
+
 abbrev pub letter_of : NodeType → List ℕ
 letter_of File = codes "f"
 letter_of Directory = codes "d"
@@ -24,14 +47,35 @@ letter_of Directory = codes "d"
 abbrev pub stat_reply : Head → List ℕ
 stat_reply head = codes "ok 2 " ++ letter_of head.kind ++ codes " " ++ decimal head.size ++ codes " " ++ decimal head.links ++ codes "\n"
 
+abbrev pub bad_reply : List ℕ
+bad_reply = codes "bad\n"
+
 -- the one line that is a command
 abbrev pub stat_line : List ℕ
 stat_line = codes "stat /"
 
+-- whether a line is that command, and so asks for the root
+abbrev pub asks_root : List ℕ → Bool
+asks_root line = bytes_eq line stat_line
+
 -- The reply to a line, where the root directory has this head. A line that is no command is bad.
 abbrev pub reply_to : Head → List ℕ → List ℕ
-reply_to head line = if bytes_eq line stat_line then stat_reply head else codes "bad\n"
+reply_to head line = if asks_root line then stat_reply head else bad_reply
 
 -- the replies to lines, in their order
 abbrev pub replies_to : Head → List (List ℕ) → List ℕ
 replies_to head lines = flat_map (reply_to head) lines
+
+-- The same where the root directory may be damaged. A line that asks for it has no reply then.
+abbrev pub reply_with : Result Head Damage → List ℕ → List ℕ
+reply_with (Ok head) line = reply_to head line
+reply_with (Err damage) line = if asks_root line then [] else bad_reply
+
+-- whether a line has a reply
+abbrev pub HasReply : Result Head Damage → List ℕ → Type 0
+HasReply (Ok head) line = Unit {0}
+HasReply (Err damage) line = asks_root line ≡ false
+
+-- the replies to the first lines of a script
+abbrev pub replies_before : Result Head Damage → List ℕ → ℕ → List ℕ
+replies_before root script commands = flat_map (reply_with root) (take commands (lines_of script))

@@ -1,5 +1,5 @@
 -- What a reader of lines holds.
-use Rattle.std.specs.Prelude.{ℕ, List, ◌++◌, take, slice_range}
+use Rattle.std.specs.Prelude.{ℕ, Bool, List, ◌++◌, take, slice_range}
 use Rattle.edge_app.specs.declared.lines.LineReader.{LineReader}
 
 -- the bytes that were read and not taken up
@@ -17,3 +17,7 @@ kept_of r = take r.kept r.line.items
 -- the number of bytes taken up
 abbrev pub used_of : LineReader → ℕ
 used_of r = r.used
+
+-- whether the end of the source was seen
+abbrev pub ended_of : LineReader → Bool
+ended_of r = r.ended

@@ -7,8 +7,12 @@ mod reply;
 mod report;
 mod session;
 mod top;
+mod volume;
 mod words;
 
-pub use report::{DEVICE, DONE, LIMIT, MEMORY, NOT_A_VOLUME, Outcome, Report, SINK, SOURCE, WORDS};
+pub use report::{
+    DAMAGED, DEVICE, DONE, LIMIT, MEMORY, NOT_A_VOLUME, Outcome, Report, SINK, SOURCE, WORDS,
+    fault_line,
+};
 pub use top::edge;
 pub use words::is_run;

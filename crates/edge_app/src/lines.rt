@@ -31,6 +31,7 @@ pub struct LineReader {
     line: Vec<u8>,
     kept: usize,
     used: u64,
+    ended: bool,
     ghost at_in: { at ≤ end },
     ghost end_in: { end ≤ vec_len input },
     ghost room: { 0 < vec_len input },
@@ -50,13 +51,14 @@ fn append(line: &mut [u8], kept: usize, bytes: &[u8]) -> usize
 }
 
 impl LineReader {
-    ghost use Rattle.edge_app.specs.Feeds.{GoesOn, TakesLine, HasBegun, kept_part};
-    ghost use Rattle.edge_app.specs.Stream.{pending, stream_of, kept_of, used_of};
+    ghost use Rattle.edge_app.specs.Feeds.{GoesOn, TakesLine, HasBegun, SeesEnd, kept_part};
+    ghost use Rattle.edge_app.specs.Stream.{pending, stream_of, kept_of, used_of, ended_of};
 
     /// A reader that has taken nothing up, with all the memory that it needs.
     pub fn new(alloc: Global) -> Result<LineReader, AllocError>
         ensures unused { IfOk result (λ r. used_of r ≡ 0) }
         ensures nothing_pending { IfOk result (λ r. pending r ≡ []) }
+        ensures not_ended { IfOk result (λ r. ended_of r ≡ false) }
     {
         Ok(LineReader {
             input: vec![in alloc; 0u8; INPUT]?,
@@ -65,6 +67,7 @@ impl LineReader {
             line: vec![in alloc; 0u8; KEPT]?,
             kept: 0,
             used: 0,
+            ended: false,
         })
     }
 
@@ -76,6 +79,8 @@ impl LineReader {
         ensures more { result ≡ Ok true → self.new.at < self.new.end }
         ensures given { IsTrue (S.tells src.old) → OnOk result (S.left src.old ≡ pending self.new ++ S.left src.new) }
         ensures end { IsTrue (S.tells src.old) → result ≡ Ok false → (pending self.new ≡ []) × (S.left src.new ≡ []) }
+        ensures ended { result ≡ Ok false → ended_of self.new ≡ true }
+        ensures goes_on { (result ≡ Ok false → ⊥) → ended_of self.new ≡ ended_of self.old }
         ensures failed { OnErr result ((S.left src.new ≡ S.left src.old) × (pending self.new ≡ [])) }
         ensures kept { kept_of self.new ≡ kept_of self.old }
         ensures used { used_of self.new ≡ used_of self.old }
@@ -84,22 +89,35 @@ impl LineReader {
         self.end = 0;
         let n = src.read(&mut self.input)?;
         self.end = n;
-        Ok(n > 0)
+        if n == 0 {
+            self.ended = true;
+            return Ok(false);
+        }
+        Ok(true)
     }
 
-    /// Whether the source gives a further byte, which stays to be taken up.
+    /// Whether the source gives a further byte, which stays to be taken up. Once the source has ended it
+    /// is not asked again.
     pub fn has_more<S: Source>(&mut self, src: &mut S) -> Result<bool, SourceFault>
+        requires { SeesEnd (S.tells src.old) (ended_of self.old) (S.left src.old) }
         ensures tells { S.tells src.new ≡ S.tells src.old }
         ensures cause { HasCause (S.faults src.old) (S.faults src.new) result }
         ensures more { result ≡ Ok true → self.new.at < self.new.end }
         ensures same { IsTrue (S.tells src.old) → OnOk result (stream_of self.new (S.left src.new) ≡ stream_of self.old (S.left src.old)) }
         ensures end { IsTrue (S.tells src.old) → result ≡ Ok false → (stream_of self.new (S.left src.new) ≡ []) × (S.left src.new ≡ []) }
+        ensures ended { result ≡ Ok false → ended_of self.new ≡ true }
+        ensures seen { SeesEnd (S.tells src.new) (ended_of self.new) (S.left src.new) }
         ensures failed { OnErr result (stream_of self.old (S.left src.old) ≡ S.left src.new) }
+        ensures not_ended { OnErr result (ended_of self.old ≡ false) }
+        ensures goes_on { (result ≡ Ok false → ⊥) → ended_of self.new ≡ ended_of self.old }
         ensures kept { kept_of self.new ≡ kept_of self.old }
         ensures used { used_of self.new ≡ used_of self.old }
     {
         if self.at < self.end {
             return Ok(true);
+        }
+        if self.ended {
+            return Ok(false);
         }
         self.refill(src)
     }
@@ -112,6 +130,7 @@ impl LineReader {
         ensures place { self.new.at ≡ self.old.at }
         ensures end { self.new.end ≡ self.old.end }
         ensures used { used_of self.new ≡ used_of self.old }
+        ensures ended { ended_of self.new ≡ ended_of self.old }
     {
         let piece = &self.input[self.at..self.at + len];
         self.kept = append(&mut self.line, self.kept, piece);
@@ -123,7 +142,8 @@ impl LineReader {
         requires some { self.old.at < self.old.end }
         requires room { 0 < most }
         requires fits { used_of self.old + most < 2 ^ 64 }
-        ensures taken { GoesOn result (pending self.old) (pending self.new) (kept_of self.old) (kept_of self.new) (used_of self.new - used_of self.old) }
+        ensures taken { GoesOn result (pending self.old) (pending self.new) (kept_of self.old) (kept_of self.new) (used_of self.old) (used_of self.new) }
+        ensures ended { ended_of self.new ≡ ended_of self.old }
         ensures more { used_of self.old < used_of self.new }
         ensures most { used_of self.new ≤ used_of self.old + most }
     {
@@ -148,6 +168,7 @@ impl LineReader {
         ensures pending { pending self.new ≡ drop n (pending self.old) }
         ensures kept { kept_of self.new ≡ kept_of self.old }
         ensures used { used_of self.new ≡ used_of self.old + n }
+        ensures ended { ended_of self.new ≡ ended_of self.old }
     {
         self.at += n;
         self.used += n as u64;
@@ -155,20 +176,22 @@ impl LineReader {
 
     /// Takes up the next line. It ends where `limit` bytes were taken up and the source gives a further one.
     pub fn next<S: Source>(&mut self, src: &mut S, limit: u64) -> Result<Next, SourceFault>
-        requires { used_of self.old ≤ limit }
+        requires limit { used_of self.old ≤ limit }
+        requires seen { SeesEnd (S.tells src.old) (ended_of self.old) (S.left src.old) }
         ensures tells { S.tells src.new ≡ S.tells src.old }
         ensures cause { HasCause (S.faults src.old) (S.faults src.new) result }
         ensures used { used_of self.new ≤ limit }
-        ensures more { used_of self.old ≤ used_of self.new }
+        ensures seen { SeesEnd (S.tells src.new) (ended_of self.new) (S.left src.new) }
         ensures line { IsTrue (S.tells src.old) → result ≡ Ok Next.Line
-            → TakesLine (stream_of self.old (S.left src.old)) (stream_of self.new (S.left src.new)) (kept_of self.new) (used_of self.new - used_of self.old) }
+            → TakesLine (stream_of self.old (S.left src.old)) (stream_of self.new (S.left src.new)) (kept_of self.new) (ended_of self.new) (used_of self.old) (used_of self.new) }
         ensures end { IsTrue (S.tells src.old) → result ≡ Ok Next.End
             → (stream_of self.old (S.left src.old) ≡ []) × (stream_of self.new (S.left src.new) ≡ []) × (S.left src.new ≡ []) × (used_of self.new ≡ used_of self.old) }
         ensures limit { result ≡ Ok Next.Limit → (used_of self.new ≡ limit) × (self.new.at < self.new.end) }
         ensures begun { IsTrue (S.tells src.old) → result ≡ Ok Next.Limit
-            → HasBegun (stream_of self.old (S.left src.old)) (stream_of self.new (S.left src.new)) (kept_of self.new) (used_of self.new - used_of self.old) }
+            → HasBegun (stream_of self.old (S.left src.old)) (stream_of self.new (S.left src.new)) (kept_of self.new) (used_of self.old) (used_of self.new) }
         ensures failed { IsTrue (S.tells src.old) → OnErr result
-            (HasBegun (stream_of self.old (S.left src.old)) (S.left src.new) (kept_of self.new) (used_of self.new - used_of self.old)) }
+            (HasBegun (stream_of self.old (S.left src.old)) (S.left src.new) (kept_of self.new) (used_of self.old) (used_of self.new)) }
+        ensures not_ended { OnErr result (ended_of self.old ≡ false) }
     {
         self.kept = 0;
         let start = self.used;

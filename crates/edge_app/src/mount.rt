@@ -3,15 +3,15 @@ ghost use Rattle.edge_base.specs.Faults.{HasCause};
 ghost use Rattle.edge_base.specs.Places.{table_start_of};
 ghost use Rattle.edge_base.specs.Spelling.{metaroot_in};
 ghost use Rattle.edge_disk.specs.Image.{shown_image};
-ghost use Rattle.edge_image.specs.Image.{live_among, is_used, is_free, free_blocks_of, free_inodes_of, reason_of_root, used_place, root_number, root_head_of};
-ghost use Rattle.std.specs.Prelude.{Some, None, IfSome};
+ghost use Rattle.edge_image.specs.Image.{live_among, is_used, is_free, free_blocks_of, free_inodes_of};
+ghost use Rattle.std.specs.Prelude.{Some, None};
 ghost use Rattle.edge_disk.specs.Disk.{SameCandidates};
-ghost use Rattle.edge_app.specs.Mount.{IsUntouched, Mounts, MountsWhole, Judges, TellsReady};
+ghost use Rattle.edge_app.specs.Mount.{IsUntouched, Mounts, MountsWhole, Judges, reason_inline};
 ghost use Rattle.edge_app.specs.Live.{FindsLive};
 
-use edge_base::{Geometry, Head, Metaroot};
+use edge_base::{Geometry, Metaroot};
 use edge_disk::{DeviceFault, Disk};
-use edge_nodes::{bit_of, decode_inode, decode_master, decode_metaroot};
+use edge_nodes::{bit_of, decode_master, decode_metaroot};
 
 /// What an image is found to be.
 #[derive(Clone, Copy, Debug)]
@@ -22,8 +22,8 @@ pub enum Mounted {
     Volume(Geometry),
 }
 
-// Whether block b is used, by the bytes of the live metaroot.
-fn is_used(g: &Geometry, root: &[u8], b: u32) -> bool
+/// Whether block b is used, by the bytes of the live metaroot.
+pub fn is_used(g: &Geometry, root: &[u8], b: u32) -> bool
     requires root { length root.now ≡ g.now.block_size }
     requires from { table_start_of g.now ≤ b }
     requires below { b < g.now.blocks }
@@ -74,7 +74,7 @@ fn is_free(g: &Geometry, root: &[u8], number: u32) -> bool
 // The reason in a live metaroot, if there is one.
 fn reason_of_root(g: &Geometry, live: &Metaroot, root: &[u8]) -> Option<u8>
     requires { length root.now ≡ g.now.block_size }
-    ensures { result ≡ reason_of_root g.now live.now root.now }
+    ensures { result ≡ reason_inline g.now live.now root.now }
 {
     if live.sequence > 1 << 63 {
         return Some(5);
@@ -154,63 +154,5 @@ fn judge(g: &Geometry, one: &mut [u8], two: &[u8]) -> Mounted
     match reason_of_root(g, &live, one) {
         Some(reason) => Mounted::NotVolume(reason),
         None => Mounted::Volume(*g),
-    }
-}
-
-// The place of the root's inode, where exactly one of its two places is used.
-fn root_place(g: &Geometry, root: &[u8]) -> Option<u32>
-    requires { length root.now ≡ g.now.block_size }
-    ensures place { result ≡ used_place g.now root.now root_number }
-    ensures inside { IfSome result (λ place. place < g.now.blocks) }
-{
-    let _within_limits = g.request();
-    let first = g.inode_place(2, false);
-    let second = g.inode_place(2, true);
-    match (is_used(g, root, first), is_used(g, root, second)) {
-        (true, false) => Some(first),
-        (false, true) => Some(second),
-        _ => None,
-    }
-}
-
-/// Reads the head of the root's inode, by the bytes of the live metaroot. There is none where not exactly
-/// one of its places is used, or that one spells no inode.
-pub fn root_head<D: Disk>(
-    disk: &mut D,
-    g: &Geometry,
-    root: &[u8],
-    block: &mut [u8],
-) -> Result<Option<Head>, DeviceFault>
-    requires size { g.now.block_size ≡ (D.origin disk.old).block_size }
-    requires fits { g.now.blocks ≤ (D.origin disk.old).blocks }
-    requires root { length root.now ≡ g.now.block_size }
-    requires block { length block.old ≡ g.now.block_size }
-    ensures cause { HasCause (D.faults disk.old) (D.faults disk.new) result }
-    ensures untouched { IsUntouched (D.origin disk.old) (D.origin disk.new) (D.shown disk.old) (D.shown disk.new) (D.may_hold disk.old) (D.may_hold disk.new) (D.is_sure disk.old) (D.is_sure disk.new) }
-    ensures head { IsTrue (D.origin disk.old).shows → IfOk result (λ head. root_head_of g.now (shown_image (D.origin disk.old) (D.shown disk.old)) root.now ≡ head) }
-{
-    let Some(place) = root_place(g, root) else {
-        return Ok(None);
-    };
-    disk.read(place, block)?;
-    Ok(decode_inode(g, block).ok())
-}
-
-/// The head of the root directory of an image that is ready, and nothing where it is not. All slices have a
-/// block's size.
-pub fn ready_head<D: Disk>(
-    disk: &mut D,
-    root: &mut [u8],
-    block: &mut [u8],
-) -> Result<Option<Head>, DeviceFault>
-    requires root { length root.old ≡ (D.origin disk.old).block_size }
-    requires block { length block.old ≡ (D.origin disk.old).block_size }
-    ensures cause { HasCause (D.faults disk.old) (D.faults disk.new) result }
-    ensures untouched { IsUntouched (D.origin disk.old) (D.origin disk.new) (D.shown disk.old) (D.shown disk.new) (D.may_hold disk.old) (D.may_hold disk.new) (D.is_sure disk.old) (D.is_sure disk.new) }
-    ensures ready { IsTrue (D.origin disk.old).shows → IfOk result (TellsReady (shown_image (D.origin disk.old) (D.shown disk.old))) }
-{
-    match mount(disk, root, block)? {
-        Mounted::NotVolume(_) => Ok(None),
-        Mounted::Volume(geometry) => root_head(disk, &geometry, root, block),
     }
 }

@@ -1,6 +1,10 @@
-ghost use Rattle.std.specs.Prelude.{◌≡◌};
-ghost use Rattle.edge_app.specs.Script.{letter_of, stat_reply, reply_to};
+ghost use Rattle.std.specs.Prelude.{◌≡◌, IsTrue, Result, Ok, Err};
+ghost use Rattle.edge_app.specs.Script.{letter_of, stat_reply, bad_reply};
+ghost use Rattle.edge_app.specs.Turn.{AnswersTo};
+ghost use Rattle.edge_app.specs.Volume.{VolumeCount};
+ghost use Rattle.edge_app.specs.Reply.{bytes_of};
 
+use crate::volume::{ReadRoot, VolumeFault};
 use arrayvec::ArrayString;
 use edge_base::{Head, NodeType};
 use itoa::Buffer;
@@ -8,13 +12,24 @@ use itoa::Buffer;
 /// The text of a reply, with its line feed.
 pub type Reply = ArrayString<64>;
 
-/// The reply to a line, where the root directory has this head.
-pub fn reply_to(head: &Head, line: &[u8]) -> Reply
-    ensures { result.bytes ≡ reply_to head.now line.now }
+/// The reply to a line: `stat /` tells the head of the root directory, and any other line is bad.
+pub fn answer<R: ReadRoot>(root: &mut R, line: &[u8]) -> Result<Reply, VolumeFault>
+    ensures shows { R.shows root.new ≡ R.shows root.old }
+    ensures root { R.root root.new ≡ R.root root.old }
+    ensures same { R.same root.old root.new }
+    ensures cause { VolumeCount result (R.faults root.old) (R.faults root.new) }
+    ensures told { IsTrue (R.shows root.old) → AnswersTo (R.root root.old) line.now (bytes_of result) }
 {
     if line == b"stat /".as_slice() {
-        return stat_reply(head);
+        let head = root.root_head()?;
+        return Ok(stat_reply(&head));
     }
+    Ok(bad_reply())
+}
+
+fn bad_reply() -> Reply
+    ensures { result.bytes ≡ bad_reply }
+{
     let mut reply = Reply::new();
     reply.push_str("bad\n");
     reply

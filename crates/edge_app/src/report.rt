@@ -1,15 +1,17 @@
-ghost use Rattle.std.specs.Prelude.{◌≡◌, None, Some, IsTrue};
-ghost use Rattle.edge_app.specs.Report.{session_end, is_status};
+ghost use Rattle.std.specs.Prelude.{◌≡◌, ◌≤◌, ◌++◌, length, drop, None, IsTrue};
+ghost use Rattle.edge_app.specs.Report.{EndsBy, number_of, fault_line_of};
 
 use crate::session::{Ended, How};
-use edge_base::Damage;
+use arrayvec::ArrayString;
+use edge_base::{Damage, DamageKind};
+use itoa::Buffer;
 
 /// How a run has ended. `docs/COMMANDS.md` has the statuses.
 #[derive(Clone, Copy, Debug, PartialEq, Eq)]
 pub struct Report {
     /// The status that the program ends with.
     pub status: u8,
-    /// Why the image is no volume, where the status tells it; else 0.
+    /// Why the image is no volume, from 1 to 8, where the status tells it; else 0.
     pub reason: u8,
     /// The lines that were answered.
     pub commands: u32,
@@ -38,16 +40,18 @@ pub const SOURCE: u8 = 3;
 pub const SINK: u8 = 4;
 /// The disk failed.
 pub const DEVICE: u8 = 5;
+/// Damage was met.
+pub const DAMAGED: u8 = 6;
 /// There was not enough memory.
 pub const MEMORY: u8 = 7;
-/// The image is not ready.
+/// The image is no volume.
 pub const NOT_A_VOLUME: u8 = 8;
 /// A limit of the session was reached.
 pub const LIMIT: u8 = 11;
 
 impl Report {
     /// The report of a run that answered no line.
-    pub(crate) fn unserved(status: u8) -> Report
+    pub const fn unserved(status: u8) -> Report
         ensures { result ≡ record { status = status; reason = 0; commands = 0; taken = 0; points = 0; damage = None } }
     {
         Report {
@@ -60,21 +64,31 @@ impl Report {
         }
     }
 
+    /// The report of a run over an image that is no volume.
+    pub(crate) fn not_a_volume(reason: u8) -> Report
+        ensures { result ≡ record { status = 8; reason = reason; commands = 0; taken = 0; points = 0; damage = None } }
+    {
+        Report {
+            reason,
+            ..Report::unserved(NOT_A_VOLUME)
+        }
+    }
+
     /// The report of a session that has ended.
     pub(crate) fn served(ended: Ended) -> Report
-        ensures how { session_end result.status ≡ Some ended.how }
-        ensures known { IsTrue (is_status result.status) }
+        ensures how { EndsBy ended.how result }
         ensures commands { result.commands ≡ ended.commands }
         ensures taken { result.taken ≡ ended.taken }
         ensures points { result.points ≡ 0 }
         ensures reason { result.reason ≡ 0 }
-        ensures damage { result.damage ≡ None }
     {
-        let status = match ended.how {
-            How::End => DONE,
-            How::Source => SOURCE,
-            How::Sink => SINK,
-            How::Limit => LIMIT,
+        let (status, damage) = match ended.how {
+            How::End => (DONE, None),
+            How::Source => (SOURCE, None),
+            How::Sink => (SINK, None),
+            How::Device => (DEVICE, None),
+            How::Damaged(damage) => (DAMAGED, Some(damage)),
+            How::Limit => (LIMIT, None),
         };
         Report {
             status,
@@ -82,7 +96,56 @@ impl Report {
             commands: ended.commands,
             taken: ended.taken,
             points: 0,
-            damage: None,
+            damage,
         }
     }
+}
+
+// The number that is printed of a kind of damage.
+fn number_of(kind: DamageKind) -> u8
+    ensures { result ≡ number_of kind }
+{
+    kind as u8
+}
+
+// The text of a fault line.
+fn fault_text(r: &Report) -> ArrayString<64>
+    ensures { result.bytes ≡ fault_line_of r.now }
+{
+    let mut digits = Buffer::new();
+    let mut text = ArrayString::new();
+    if r.status == DONE {
+        return text;
+    }
+    text.push_str("edge: status ");
+    text.push_str(digits.format(r.status));
+    match r.damage {
+        Some(damage) if r.status == DAMAGED => {
+            text.push_str(" block ");
+            text.push_str(digits.format(damage.block));
+            text.push_str(" kind ");
+            text.push_str(digits.format(number_of(damage.kind)));
+        }
+        _ => {}
+    }
+    if r.status == NOT_A_VOLUME {
+        text.push_str(" reason ");
+        text.push_str(digits.format(r.reason));
+    }
+    text.push_str("\n");
+    text
+}
+
+/// Writes the fault line of a report to the front of `out`, which has at least 64 bytes, and answers its
+/// length: `edge: status S`, then ` block B kind K` where damage was met, or ` reason R` where the image is
+/// no volume, and a line feed. At status 0 there is none.
+pub fn fault_line(r: &Report, out: &mut [u8]) -> usize
+    requires { 64 ≤ length out.old }
+    ensures length { result ≡ length (fault_line_of r.now) }
+    ensures text { out.new ≡ fault_line_of r.now ++ drop result out.old }
+{
+    let text = fault_text(r);
+    let bytes = text.as_str().as_bytes();
+    out[..bytes.len()].copy_from_slice(bytes);
+    bytes.len()
 }

@@ -1,11 +1,15 @@
-ghost use Rattle.std.specs.Prelude.{◌≡◌, ◌⊎◌, ◌+◌, ◌-◌, ◌<◌, ◌≤◌, ◌≢◌, ◌++◌, [], ℕ, length, take, drop, IsTrue, OnOk, OnErr, Some, None, true, false};
-ghost use Rattle.edge_base.specs.Faults.{HasCause, Rose};
-ghost use Rattle.edge_app.specs.Stream.{pending, stream_of, used_of};
+ghost use Rattle.std.specs.Prelude.{◌≡◌, ◌⊎◌, ◌≤◌, ◌++◌, [], IsTrue, OnOk, OnErr, Some, None, true, false};
+ghost use Rattle.edge_base.specs.Faults.{HasCause};
+ghost use Rattle.edge_app.specs.Feeds.{SeesEnd};
 ghost use Rattle.edge_app.specs.Part.{TookPart};
+ghost use Rattle.edge_app.specs.Session.{Ran};
+ghost use Rattle.edge_app.specs.Stream.{pending, stream_of, used_of, ended_of};
+ghost use Rattle.edge_app.specs.Turn.{SourceCount, SinkCount, RootCount, Turns};
 
 use crate::lines::{LineReader, Next};
-use crate::reply::reply_to;
-use edge_base::Head;
+use crate::reply::answer;
+use crate::volume::{ReadRoot, VolumeFault};
+use edge_base::Damage;
 use edge_io::{Sink, SinkFault, Source};
 
 /// How many lines a session answers at most, and how many bytes of a script it takes up.
@@ -26,6 +30,10 @@ pub enum How {
     Sink,
     /// A limit was reached, and the source gives a further byte.
     Limit,
+    /// The disk failed.
+    Device,
+    /// Damage was met.
+    Damaged(Damage),
 }
 
 /// How a session has ended, how many lines were answered, and how many bytes of the script are in them
@@ -51,29 +59,36 @@ fn write_all<K: Sink>(out: &mut K, bytes: &[u8]) -> Result<(), SinkFault>
     Ok(())
 }
 
-ghost use Rattle.edge_app.specs.Session.{AnsweredLines, TookReplies};
-ghost use Rattle.edge_app.specs.Turn.{SourceCount, SinkCount, TurnsStream, TurnsSink};
-
 // Answers one line, where there is room for a further one, and tells why none was answered.
-fn turn<S: Source, K: Sink>(
+fn turn<S: Source, K: Sink, R: ReadRoot>(
     src: &mut S,
     out: &mut K,
-    head: &Head,
+    root: &mut R,
     has_room: bool,
     bytes: u64,
     lines: &mut LineReader,
 ) -> Option<How>
-    requires { used_of lines.old ≤ bytes }
+    requires limit { used_of lines.old ≤ bytes }
+    requires seen { SeesEnd (S.tells src.old) (ended_of lines.old) (S.left src.old) }
+
     ensures source_tells { S.tells src.new ≡ S.tells src.old }
     ensures sink_tells { K.tells out.new ≡ K.tells out.old }
+    ensures shows { R.shows root.new ≡ R.shows root.old }
+    ensures root { R.root root.new ≡ R.root root.old }
+    ensures same { R.same root.old root.new }
+    ensures seen { SeesEnd (S.tells src.new) (ended_of lines.new) (S.left src.new) }
+
     ensures source { SourceCount result (S.faults src.old) (S.faults src.new) }
     ensures sink { SinkCount result (K.faults out.old) (K.faults out.new) }
+    ensures device { RootCount result (R.faults root.old) (R.faults root.new) }
+
     ensures used { used_of lines.new ≤ bytes }
     ensures room { result ≡ None → has_room ≡ true }
     ensures limit { result ≡ Some How.Limit → (has_room ≡ false) ⊎ (used_of lines.new ≡ bytes) }
-    ensures stream { IsTrue (S.tells src.old) → TurnsStream result (stream_of lines.old (S.left src.old)) (stream_of lines.new (S.left src.new)) }
-    ensures taken { IsTrue (S.tells src.old) → IsTrue (K.tells out.old)
-        → TurnsSink result head.now (stream_of lines.old (S.left src.old)) (K.taken out.old) (K.taken out.new) }
+    ensures end { IsTrue (S.tells src.old) → result ≡ Some How.End → S.left src.new ≡ [] }
+    ensures turned { IsTrue (R.shows root.old) → IsTrue (S.tells src.old) → IsTrue (K.tells out.old)
+        → Turns result (R.root root.old) (stream_of lines.old (S.left src.old)) (stream_of lines.new (S.left src.new)) (S.left src.new)
+        (ended_of lines.old) (ended_of lines.new) (used_of lines.old) (used_of lines.new) (K.taken out.old) (K.taken out.new) }
 {
     if !has_room {
         return match lines.has_more(src) {
@@ -88,52 +103,67 @@ fn turn<S: Source, K: Sink>(
         Ok(Next::Limit) => return Some(How::Limit),
         Err(_) => return Some(How::Source),
     }
-    match write_all(out, reply_to(head, lines.line()).as_str().as_bytes()) {
+    let reply = match answer(root, lines.line()) {
+        Ok(reply) => reply,
+        Err(VolumeFault::Device) => return Some(How::Device),
+        Err(VolumeFault::Damaged(damage)) => return Some(How::Damaged(damage)),
+    };
+    match write_all(out, reply.as_str().as_bytes()) {
         Ok(()) => None,
         Err(_) => Some(How::Sink),
     }
 }
 
+// The bytes in the lines that were taken up: a line that the source failed to give whole is none of them.
+fn taken_at(how: How, before: u64, after: u64) -> u64
+    ensures failed { how ≡ How.Source → result ≡ before }
+    ensures other { (how ≡ How.Source → ⊥) → result ≡ after }
+{
+    match how {
+        How::Source => before,
+        _ => after,
+    }
+}
+
 /// Answers a script line by line, from its beginning. The reply to a line is given to the sink before the
-/// next line is taken up.
-pub fn serve<S: Source, K: Sink>(
+/// next line is taken up. `lines` has taken nothing up.
+pub fn serve<S: Source, K: Sink, R: ReadRoot>(
     src: &mut S,
     out: &mut K,
-    head: &Head,
+    root: &mut R,
     limit: Limit,
     lines: &mut LineReader,
 ) -> Ended
     requires unused { used_of lines.old ≡ 0 }
     requires nothing_pending { pending lines.old ≡ [] }
+    requires not_ended { ended_of lines.old ≡ false }
+
     ensures source_tells { S.tells src.new ≡ S.tells src.old }
     ensures sink_tells { K.tells out.new ≡ K.tells out.old }
+    ensures same { R.same root.old root.new }
+
     ensures source { SourceCount (Some result.how) (S.faults src.old) (S.faults src.new) }
     ensures sink { SinkCount (Some result.how) (K.faults out.old) (K.faults out.new) }
+    ensures device { RootCount (Some result.how) (R.faults root.old) (R.faults root.new) }
+
     ensures few { result.commands ≤ limit.lines }
+    ensures short { result.taken ≤ limit.bytes }
     ensures limit { result.how ≡ How.Limit → (result.commands ≡ limit.lines) ⊎ (result.taken ≡ limit.bytes) }
     ensures end { IsTrue (S.tells src.old) → result.how ≡ How.End → S.left src.new ≡ [] }
-    ensures answered { IsTrue (S.tells src.old) → AnsweredLines result.how (S.left src.old) result.commands }
-    ensures replies { IsTrue (S.tells src.old) → IsTrue (K.tells out.old)
-        → TookReplies result.how head.now (S.left src.old) result.commands (K.taken out.old) (K.taken out.new) }
+    ensures ran { IsTrue (R.shows root.old) → IsTrue (S.tells src.old) → IsTrue (K.tells out.old)
+        → Ran result.how (R.root root.old) (S.left src.old) (S.left src.new) result.commands result.taken (K.taken out.old) (K.taken out.new) }
 {
     let mut commands = 0;
     loop {
-        let before = lines.used();
+        let taken = lines.used();
         let has_room = commands < limit.lines;
-        match turn(src, out, head, has_room, limit.bytes, lines) {
+        match turn(src, out, root, has_room, limit.bytes, lines) {
             None => commands += 1,
-            Some(How::Source) => {
-                return Ended {
-                    how: How::Source,
-                    commands,
-                    taken: before,
-                };
-            }
             Some(how) => {
                 return Ended {
                     how,
                     commands,
-                    taken: lines.used(),
+                    taken: taken_at(how, taken, lines.used()),
                 };
             }
         }

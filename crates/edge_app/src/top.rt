@@ -1,18 +1,19 @@
-ghost use Rattle.std.specs.Prelude.{◌≡◌, ◌⊎◌, ◌↔◌, ◌++◌, [], ℕ, map, take, IsTrue, IfOk, IsSome, IsNone, vec_len};
+ghost use Rattle.std.specs.Prelude.{◌≡◌, ◌⊎◌, ◌↔◌, ◌++◌, [], ℕ, map, take, IsTrue, IfOk, None, Some, false, vec_len};
 ghost use Rattle.edge_base.specs.Faults.{Rose};
 ghost use Rattle.edge_base.specs.declared.node.Head.{Head};
 ghost use Rattle.edge_disk.specs.Image.{shown_image};
+ghost use Rattle.edge_image.specs.Image.{reason_of};
 ghost use Rattle.edge_image.specs.Ready.{IsReady};
 ghost use Rattle.edge_app.specs.Mount.{IsUntouched};
-ghost use Rattle.edge_app.specs.Report.{is_status, session_end, Serves};
+ghost use Rattle.edge_app.specs.Report.{is_status, is_session, has_no_session, Served, Unserved};
 ghost use Rattle.edge_app.specs.Script.{lines_of, replies_to};
-ghost use Rattle.edge_app.specs.Stream.{pending, used_of};
+ghost use Rattle.edge_app.specs.Stream.{pending, used_of, ended_of};
 ghost use Rattle.edge_app.specs.Words.{IsRun};
 
 use crate::lines::LineReader;
-use crate::mount::ready_head;
-use crate::report::{DEVICE, MEMORY, NOT_A_VOLUME, Outcome, Report, WORDS};
+use crate::report::{DEVICE, MEMORY, Outcome, Report, WORDS};
 use crate::session::{Limit, serve};
+use crate::volume::{MountFault, Volume};
 use crate::words::is_run;
 use edge_disk::Disk;
 use edge_io::{Sink, Source};
@@ -39,6 +40,7 @@ impl Buffers {
     fn new(alloc: Global) -> Result<Buffers, AllocError>
         ensures unused { IfOk result (λ b. used_of b.lines ≡ 0) }
         ensures nothing_pending { IfOk result (λ b. pending b.lines ≡ []) }
+        ensures not_ended { IfOk result (λ b. ended_of b.lines ≡ false) }
         ensures root { IfOk result (λ b. vec_len b.root ≡ 512) }
         ensures block { IfOk result (λ b. vec_len b.block ≡ 512) }
     {
@@ -57,7 +59,7 @@ pub fn edge<S: Source, K: Sink, D: Disk>(
     words: &[&str],
     src: &mut S,
     out: &mut K,
-    mut disk: D,
+    disk: D,
 ) -> Outcome<D>
     requires { (D.origin disk).block_size ≡ 512 }
 
@@ -71,20 +73,26 @@ pub fn edge<S: Source, K: Sink, D: Disk>(
     ensures source { result.report.status ≡ 3 → Rose (S.faults src.old) (S.faults src.new) }
     ensures sink { result.report.status ≡ 4 → Rose (K.faults out.old) (K.faults out.new) }
     ensures device { result.report.status ≡ 5 → Rose (D.faults disk) (D.faults result.disk) }
-    ensures memory { result.report.status ≡ 7 → result.report.commands ≡ 0 }
-    ensures not_ready { IsTrue (D.origin disk).shows → result.report.status ≡ 8 → (head : Head) → IsReady (shown_image (D.origin disk) (D.shown disk)) head → ⊥ }
-    ensures ready { IsTrue (D.origin disk).shows → IsSome (session_end result.report.status) → (head : Head) × IsReady (shown_image (D.origin disk) (D.shown disk)) head }
+    ensures reason { IsTrue (D.origin disk).shows → result.report.status ≡ 8 → reason_of (shown_image (D.origin disk) (D.shown disk)) ≡ Some result.report.reason }
+    ensures mounted { IsTrue (D.origin disk).shows → IsTrue (is_session result.report.status) → reason_of (shown_image (D.origin disk) (D.shown disk)) ≡ None }
     ensures limit { result.report.status ≡ 11 → (result.report.commands ≡ 4294967295) ⊎ (result.report.taken ≡ 1099511627776) }
+    ensures no_reason { (result.report.status ≡ 8 → ⊥) → result.report.reason ≡ 0 }
+    ensures no_damage { (result.report.status ≡ 6 → ⊥) → result.report.damage ≡ None }
 
-    // What is answered, where the image is ready.
-    ensures served { IsTrue (D.origin disk).shows → IsTrue (S.tells src.old) → IsTrue (K.tells out.old) → (head : Head) → IsReady (shown_image (D.origin disk) (D.shown disk)) head
-        → Serves (session_end result.report.status) head (S.left src.old) result.report.commands (K.taken out.old) (K.taken out.new) }
+    // What is answered.
+    ensures served { IsTrue (D.origin disk).shows → IsTrue (S.tells src.old) → IsTrue (K.tells out.old)
+        → Served (shown_image (D.origin disk) (D.shown disk)) result.report (S.left src.old) (S.left src.new) (K.taken out.old) (K.taken out.new)
+        ⊎ Unserved result.report (S.left src.old) (S.left src.new) (K.taken out.old) (K.taken out.new) }
+    ensures unserved { IsTrue (has_no_session result.report.status) → Unserved result.report (S.left src.old) (S.left src.new) (K.taken out.old) (K.taken out.new) }
+    ensures end { result.report.status ≡ 0 → IsTrue (S.tells src.old) → S.left src.new ≡ [] }
+
+    // The same where the image is ready.
+    ensures ready { IsTrue (D.origin disk).shows → IsTrue (S.tells src.old) → IsTrue (K.tells out.old) → (head : Head) → IsReady (shown_image (D.origin disk) (D.shown disk)) head
+        → (result.report.status ≡ 6) ⊎ (result.report.status ≡ 8) → ⊥ }
     ensures prefix { IsTrue (D.origin disk).shows → IsTrue (S.tells src.old) → IsTrue (K.tells out.old) → (head : Head) → IsReady (shown_image (D.origin disk) (D.shown disk)) head
         → (n : ℕ) × (K.taken out.new ≡ K.taken out.old ++ take n (replies_to head (lines_of (S.left src.old)))) }
     ensures whole { result.report.status ≡ 0 → IsTrue (D.origin disk).shows → IsTrue (S.tells src.old) → IsTrue (K.tells out.old) → (head : Head) → IsReady (shown_image (D.origin disk) (D.shown disk)) head
         → K.taken out.new ≡ K.taken out.old ++ replies_to head (lines_of (S.left src.old)) }
-    ensures end { result.report.status ≡ 0 → IsTrue (S.tells src.old) → S.left src.new ≡ [] }
-    ensures unserved { IsNone (session_end result.report.status) → (K.taken out.new ≡ K.taken out.old) × (S.left src.new ≡ S.left src.old) }
 {
     if !is_run(words) {
         return Outcome {
@@ -98,20 +106,22 @@ pub fn edge<S: Source, K: Sink, D: Disk>(
             disk,
         };
     };
-    match ready_head(&mut disk, &mut buffers.root, &mut buffers.block) {
-        Err(_) => Outcome {
-            report: Report::unserved(DEVICE),
-            disk,
+    match Volume::mount(disk, buffers.root, buffers.block) {
+        Err((disk, fault)) => match fault {
+            MountFault::Device => Outcome {
+                report: Report::unserved(DEVICE),
+                disk,
+            },
+            MountFault::NotVolume(reason) => Outcome {
+                report: Report::not_a_volume(reason),
+                disk,
+            },
         },
-        Ok(None) => Outcome {
-            report: Report::unserved(NOT_A_VOLUME),
-            disk,
-        },
-        Ok(Some(head)) => {
-            let ended = serve(src, out, &head, LIMITS, &mut buffers.lines);
+        Ok(mut volume) => {
+            let ended = serve(src, out, &mut volume, LIMITS, &mut buffers.lines);
             Outcome {
                 report: Report::served(ended),
-                disk,
+                disk: volume.into_disk(),
             }
         }
     }

@@ -1,15 +1,19 @@
 -- What an image says: its live metaroot, which blocks are used, and the reasons why it is not mounted.
-use Rattle.std.specs.Prelude.{ℕ, ◌-◌, ◌^◌, ◌==◌, ◌&&◌, not, Bool, true, false, nat_lt, if◌then◌else◌, count_by, List, Option, Some, None, Result, Ok, Err}
-use Rattle.std.specs.List.{range_with_len}
-use Rattle.std.specs.Result.{result_ok}
+use Rattle.std.specs.Prelude.{ℕ, ◌-◌, ◌^◌, ◌==◌, ◌&&◌, not, Bool, true, false, nat_lt, if◌then◌else◌, count_by, List, drop, Option, Some, None, Result, Ok, Err}
+use Rattle.std.specs.List.{list_any, range_with_len}
 use Rattle.edge_base.specs.declared.geometry.Request.{Request}
 use Rattle.edge_base.specs.declared.node.Head.{Head}
 use Rattle.edge_base.specs.declared.node.Master.{Master}
 use Rattle.edge_base.specs.declared.node.Metaroot.{Metaroot}
 use Rattle.edge_base.specs.declared.node.NodeFault.{NodeFault}
-use Rattle.edge_base.specs.Places.{table_start_of, inode_place_of, first_allocable_of, allocable_of}
-use Rattle.edge_base.specs.Bytes.{bit_in}
-use Rattle.edge_base.specs.Spelling.{master_in, metaroot_in, inode_in}
+use Rattle.edge_base.specs.declared.damage.Damage.{Damage}
+use Rattle.edge_base.specs.declared.damage.DamageKind.{DamageKind}
+use Rattle.edge_base.specs.declared.damage.DamageKind.TheVariants as kinds
+use Rattle.edge_base.specs.declared.node.NodeFault.TheVariants as faults
+use Rattle.edge_base.specs.Places.{imap_nodes_of, imap_place_of, table_start_of, inode_place_of, first_allocable_of, allocable_of}
+use Rattle.edge_base.specs.Bytes.{number_at, signature_in, bit_in, clear_from}
+use Rattle.edge_base.specs.Word.{check_word_of}
+use Rattle.edge_base.specs.Spelling.{imap_signature, bits_of_node, master_in, metaroot_in, inode_in}
 use Rattle.edge_disk.specs.Image.{Image}
 
 -- ---- the live metaroot
@@ -66,21 +70,35 @@ free_inodes_of g root = count_by (is_free g root) (range_with_len 2 g.inodes)
 
 -- ---- reasons
 
+-- whether a block spells imap node i
+abbrev pub spells_imap : Request → ℕ → List ℕ → Bool
+spells_imap g i b = (signature_in b == imap_signature) && (number_at 4 4 b == check_word_of (drop 8 b)) && clear_from (bits_of_node g i) 16 b
+
+-- the block of the live place of imap node i
+abbrev pub imap_block_of : Request → List ℕ → ℕ → ℕ
+imap_block_of g root i = imap_place_of g i (bit_in 32 root i)
+
+-- whether a live imap node spells none, which no geometry of today has
+abbrev pub has_bad_imap : Request → Image → List ℕ → Bool
+has_bad_imap g image root = list_any (λ i. not (spells_imap g i (image.block (imap_block_of g root i)))) (range_with_len 0 (imap_nodes_of g))
+
 -- whether the two counts of a metaroot are those of its bitmap
 abbrev pub counts_hold : Request → Metaroot → List ℕ → Bool
 counts_hold g root bytes = (root.free_blocks == free_blocks_of g bytes) && (root.free_inodes == free_inodes_of g bytes)
 
--- The reasons in a live metaroot, from its fields and its bytes. There is no reason 6 until bitmaps lie in nodes of their own.
-abbrev pub reason_of_root : Request → Metaroot → List ℕ → Option ℕ
-reason_of_root g root bytes =
-    if nat_lt (2 ^ 63) root.sequence then Some 5
-    else if not (counts_hold g root bytes) then Some 7
+-- the reasons in a live metaroot with its bitmap, from its fields and its bytes
+abbrev pub reason_of_counts : Request → Metaroot → List ℕ → Option ℕ
+reason_of_counts g root bytes =
+    if not (counts_hold g root bytes) then Some 7
     else if nat_lt (free_blocks_of g bytes) 3 then Some 8
     else None
 
 abbrev pub reason_of_live : Request → Image → Option Live → Option ℕ
 reason_of_live g image None = Some 4
-reason_of_live g image (Some live) = reason_of_root g live.root (image.block live.place)
+reason_of_live g image (Some live) =
+    if nat_lt (2 ^ 63) live.root.sequence then Some 5
+    else if has_bad_imap g image (image.block live.place) then Some 6
+    else reason_of_counts g live.root (image.block live.place)
 
 abbrev pub reason_of_master : Image → Result Master NodeFault → Option ℕ
 reason_of_master image (Err fault) = Some 1
@@ -93,17 +111,37 @@ reason_of_master image (Ok master) =
 unfoldable pub reason_of : Image → Option ℕ
 reason_of image = if nat_lt image.blocks 3 then Some 1 else reason_of_master image (master_in (image.block 0))
 
--- ---- the root directory
+-- ---- inodes
 
 -- the number of the root directory
 abbrev pub root_number : ℕ
 root_number = 2
 
--- what a block spells, where there is one
-abbrev pub head_at : Image → Option ℕ → Option Head
-head_at image None = None
-head_at image (Some place) = result_ok (inode_in (image.block place))
+-- the kind of damage that a fault of an inode is
+abbrev pub kind_of : NodeFault → DamageKind
+kind_of faults.WrongSignature = kinds.WrongSignature
+kind_of faults.WrongWord = kinds.WrongWord
+kind_of (faults.WrongField at) = kinds.WrongField
 
--- The head of the root's inode, where exactly one of its places is used and spells one. root is the bytes of the live metaroot.
-abbrev pub root_head_of : Request → Image → List ℕ → Option Head
-root_head_of g image root = head_at image (used_place g root root_number)
+-- the head that a block spells, or the damage of that block
+abbrev pub head_told : ℕ → Result Head NodeFault → Result Head Damage
+head_told place (Ok head) = Ok head
+head_told place (Err fault) = Err (record { block = place; kind = kind_of fault })
+
+-- The place of a number's inode, where exactly one of its two places is used. root is the bytes of the live metaroot.
+abbrev pub place_of : Request → List ℕ → ℕ → Result ℕ Damage
+place_of g root number = by_use (is_used g root (inode_place_of g number false)) (is_used g root (inode_place_of g number true))
+  where
+    by_use : Bool → Bool → Result ℕ Damage
+    by_use true false = Ok (inode_place_of g number false)
+    by_use false true = Ok (inode_place_of g number true)
+    by_use true true = Err (record { block = inode_place_of g number false; kind = kinds.TwoPlaces })
+    by_use false false = Err (record { block = inode_place_of g number false; kind = kinds.NotUsed })
+
+abbrev pub head_by : Image → Result ℕ Damage → Result Head Damage
+head_by image (Ok place) = head_told place (inode_in (image.block place))
+head_by image (Err damage) = Err damage
+
+-- the head of a number's inode, or the damage that is met where it is read
+abbrev pub head_of : Request → Image → List ℕ → ℕ → Result Head Damage
+head_of g image root number = head_by image (place_of g root number)

@@ -3,11 +3,13 @@
 //! without effects.
 #![tactic(auto)]
 
-ghost use Rattle.std.specs.Prelude.{◌≡◌, ◌↔◌, Some};
+ghost use Rattle.std.specs.Prelude.{◌≡◌, ◌↔◌, None, Some, Ok};
 ghost use Rattle.edge_base.specs.declared.geometry.Request.{Request};
 ghost use Rattle.edge_base.specs.declared.node.Head.{Head};
+ghost use Rattle.edge_base.specs.declared.node.Master.{Master};
+ghost use Rattle.edge_base.specs.Spelling.{master_in};
 ghost use Rattle.edge_disk.specs.Image.{Image};
-ghost use Rattle.edge_image.specs.Image.{Live, live_of};
+ghost use Rattle.edge_image.specs.Image.{Live, live_of, reason_of, head_of, root_number};
 ghost use Rattle.edge_image.specs.Ready.{IsReady, IsLive};
 
 /// The live metaroot is the valid one that no other beats, and there is no other such one.
@@ -18,4 +20,10 @@ pub fn live_is_the_greater()
 /// An image is ready with one head alone.
 pub fn ready_with_one_head()
     ensures { (image : Image) (one two : Head) → IsReady image one → IsReady image two → one ≡ two }
+{}
+
+/// Of an image without a reason, ready is to tell the head of the root directory.
+pub fn ready_tells_the_head()
+    ensures { (image : Image) (master : Master) (live : Live) (head : Head) → reason_of image ≡ None → master_in (image.block 0) ≡ Ok master → live_of master.geometry image ≡ Some live
+        → IsReady image head ↔ (head_of master.geometry image (image.block live.place) root_number ≡ Ok head) }
 {}

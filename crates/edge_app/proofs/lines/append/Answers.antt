@@ -1,5 +1,5 @@
-use Rattle.std.proofs.Common.{◌≡◌, ℕ, ◌+◌, ◌-◌, ◌≤◌, ◌++◌, List, length, take, min, arith, sym, ap, ◌∙◌, refl}
-use Rattle.std.proofs.lemmas.List.{length-take-le, length-take, take_min}
+use Rattle.std.proofs.Common.{◌≡◌, ◌+◌, ◌++◌, length, take, arith, ap, ◌∙◌}
+use Rattle.std.proofs.lemmas.List.{length-take-le, length-take}
 use Rattle.std.proofs.lemmas.Slice.{take-put_mid}
 use Rattle.edge_app.proofs.StreamLaws.{take-front}
 use Rattle.edge_app.proofs.lines.append.Goals as goal

@@ -1,4 +1,4 @@
-use Rattle.std.proofs.Common.{◌≡◌, ◌+◌, ◌-◌, not, ap, ◌∙◌, arith}
+use Rattle.std.proofs.Common.{◌+◌, ◌-◌, not, ap, ◌∙◌, arith}
 use Rattle.edge_base.specs.Places.{first_allocable_of}
 use Rattle.edge_image.specs.Image.{is_unused}
 use Rattle.edge_app.proofs.CountLaws.{counts-more, counts-few, as_number, small}

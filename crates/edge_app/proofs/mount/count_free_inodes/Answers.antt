@@ -1,4 +1,4 @@
-use Rattle.std.proofs.Common.{◌≡◌, ◌+◌, ◌-◌, ◌∙◌, arith}
+use Rattle.std.proofs.Common.{◌+◌, ◌-◌, ◌∙◌, arith}
 use Rattle.edge_image.specs.Image.{is_free}
 use Rattle.edge_app.proofs.CountLaws.{counts-more, counts-few, as_number, small}
 use Rattle.edge_app.proofs.mount.count_free_inodes.Goals as goal

@@ -1,4 +1,4 @@
-use Rattle.std.proofs.Common.{◌≡◌, sym, ◌∙◌, Some, None}
+use Rattle.std.proofs.Common.{Some, None}
 use Rattle.edge_app.proofs.MountLaws.{judge}
 use Rattle.edge_app.proofs.mount.judge.Goals as goal
 

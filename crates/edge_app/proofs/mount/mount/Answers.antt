@@ -1,4 +1,4 @@
-use Rattle.std.proofs.Common.{◌≡◌, sym, ap, ◌∙◌, subst, arith}
+use Rattle.std.proofs.Common.{sym, ap, ◌∙◌, subst, arith}
 use Rattle.std.specs.Prelude.{IsTrue}
 use Rattle.edge_base.specs.Spelling.{master_in}
 use Rattle.edge_disk.specs.Image.{shown_image}
@@ -29,7 +29,7 @@ returns-then-blocks-request-clause-told g c = λ shows.
 pub returns-clause-told : goal.returns-clause-told
 returns-clause-told g c = λ shows.
     let image = shown_image (g.D.Disk.origin c.args.disk.now) (g.D.Disk.shown c.args.disk.now) in
-    judged image c.in-Ok.master _ _ (omega arith)
+    judged image c.in-Ok.master _ _ c.request-request.ensures.limits.inline (omega arith)
     (sym (ap master_in (c.in_ok-read.ensures.bytes shows)) ∙ sym c.in-Ok.ensures.exact)
     (sym (ap (λ r. r.block_size) c.request-request.ensures.same) ∙ c.if-request-block_size.false ∙ c.block_size.ensures ∙ ap (λ o. o.block_size) c.in_ok-read.ensures.origin)
     (omega (arith, c.blocks-3.ensures, ap (λ o. o.blocks) c.in_ok-read.ensures.origin, ap (λ r. r.blocks) c.request-request.ensures.same))

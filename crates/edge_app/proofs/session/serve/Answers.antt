@@ -1,33 +1,35 @@
-use Rattle.std.proofs.Common.{◌≡◌, ◌+◌, ◌<◌, sym, ap, ◌∙◌, subst, arith, Some, None, inl, inr, refl}
-use Rattle.std.proofs.Common.{ℕ}
+use Rattle.std.proofs.Common.{sym, ◌∙◌, subst, arith, Some, refl, ℕ}
 use Rattle.std.specs.Prelude.{IsTrue}
-use Rattle.std.proofs.lemmas.Bool.{ltb-true, ltb-false}
-use Rattle.edge_app.specs.Script.{lines_of}
-use Rattle.edge_app.specs.Stream.{stream_of, pending}
-use Rattle.edge_app.specs.Turn.{SourceCount, SinkCount, TurnsStream}
-use Rattle.edge_app.proofs.SessionLaws.{next_line, replies-more, answered-at_end, took-at_end, none_behind}
+use Rattle.std.proofs.lemmas.Bool.{ltb-true}
+use Rattle.edge_app.specs.Stream.{stream_of, used_of, ended_of}
+use Rattle.edge_app.specs.Turn.{SourceCount, SinkCount, RootCount}
+use Rattle.edge_app.proofs.ProgressLaws.{goes_on, ends_at}
 use Rattle.edge_app.proofs.session.serve.Goals as goal
 
 pub loop-commands-preserved : goal.loop-commands-preserved
 loop-commands-preserved g c =
     let i = c.loop-commands.invariant in
     let t = c.in-None.ensures in
-    let script = g.S.Source.left c.args.src.now in
-    let left = stream_of c.loop-commands.lines (g.S.Source.left c.loop-commands.src) in
     record {
       few = omega (arith, ltb-true c.loop-commands.commands c.args.limit.lines (t.room refl));
       used = t.used;
+      seen = t.seen;
       source_tells = t.source_tells ∙ i.source_tells;
       sink_tells = t.sink_tells ∙ i.sink_tells;
+      shows = t.shows ∙ i.shows;
+      root = t.root ∙ i.root;
+      same = g.met.R.ReadRoot.same_in_turn _ _ _ i.same t.same;
       source_faults = t.source ∙ i.source_faults;
       sink_faults = t.sink ∙ i.sink_faults;
-      count = λ told. let below = (next_line script left c.loop-commands.commands (i.rest told) (t.stream (subst IsTrue (sym i.source_tells) told)).0).below in omega arith;
-      rest = λ told. let s = t.stream (subst IsTrue (sym i.source_tells) told) in (next_line script left c.loop-commands.commands (i.rest told) s.0).left ∙ ap lines_of (sym s.1);
-      text = λ told sink_told.
-          let source_told = subst IsTrue (sym i.source_tells) told in
-          let next = next_line script left c.loop-commands.commands (i.rest told) (t.stream source_told).0 in
-          replies-more c.args.head.now script left c.loop-commands.commands _ _ _ next (i.text told sink_told) (t.taken source_told (subst IsTrue (sym i.sink_tells) sink_told));
+      root_faults = t.device ∙ i.root_faults;
+      progress = λ shows tells told.
+          let turned = t.turned (subst IsTrue (sym i.shows) shows) (subst IsTrue (sym i.source_tells) tells) (subst IsTrue (sym i.sink_tells) told) in
+          goes_on (g.R.ReadRoot.root c.args.root.now) (g.S.Source.left c.args.src.now) (stream_of c.loop-commands.lines (g.S.Source.left c.loop-commands.src)) (ended_of c.loop-commands.lines) (used_of c.loop-commands.lines) c.loop-commands.commands (g.K.Sink.taken c.args.out.now) (g.K.Sink.taken c.loop-commands.out)
+          (i.progress shows tells told) (g.R.ReadRoot.root c.loop-commands.root) i.root _ _ _ _ turned;
     }
+
+pub returns-in-Some-clause-same : goal.returns-in-Some-clause-same
+returns-in-Some-clause-same g c = g.met.R.ReadRoot.same_in_turn _ _ _ c.loop-commands.invariant.same c.in-Some.ensures.same
 
 pub returns-in-Some-clause-source : goal.returns-in-Some-clause-source
 returns-in-Some-clause-source g c = subst (λ (n : ℕ). SourceCount (Some c.in-Some.how) n (g.S.Source.faults c.turn.new.src)) c.loop-commands.invariant.source_faults c.in-Some.ensures.source
@@ -35,25 +37,15 @@ returns-in-Some-clause-source g c = subst (λ (n : ℕ). SourceCount (Some c.in-
 pub returns-in-Some-clause-sink : goal.returns-in-Some-clause-sink
 returns-in-Some-clause-sink g c = subst (λ (n : ℕ). SinkCount (Some c.in-Some.how) n (g.K.Sink.faults c.turn.new.out)) c.loop-commands.invariant.sink_faults c.in-Some.ensures.sink
 
-pub returns-in-Some-clause-limit : goal.returns-in-Some-clause-limit
-returns-in-Some-clause-limit g c = λ is. elim (c.in-Some.ensures.limit (ap Some is)) [
-  | inl full ↦ inl (let past = ltb-false c.loop-commands.commands c.args.limit.lines full in let few = c.loop-commands.invariant.few in omega arith)
-  | inr used ↦ inr (c.used.ensures ∙ used)
-]
+pub returns-in-Some-clause-device : goal.returns-in-Some-clause-device
+returns-in-Some-clause-device g c = subst (λ (n : ℕ). RootCount (Some c.in-Some.how) n (g.R.ReadRoot.faults c.turn.new.root)) c.loop-commands.invariant.root_faults c.in-Some.ensures.device
 
-pub returns-in-Some-clause-end : goal.returns-in-Some-clause-end
-returns-in-Some-clause-end g c = λ told is.
-    let s = c.in-Some.ensures.stream (subst IsTrue (sym c.loop-commands.invariant.source_tells) told) in
-    none_behind (pending c.turn.new.lines) _ (subst (λ h. TurnsStream (Some h) (stream_of c.loop-commands.lines (g.S.Source.left c.loop-commands.src)) (stream_of c.turn.new.lines (g.S.Source.left c.turn.new.src))) is s).1
-
-pub returns-in-Some-clause-answered : goal.returns-in-Some-clause-answered
-returns-in-Some-clause-answered g c = λ told.
+pub returns-in-Some-clause-ran : goal.returns-in-Some-clause-ran
+returns-in-Some-clause-ran g c = λ shows tells told.
     let i = c.loop-commands.invariant in
-    answered-at_end c.in-Some.how _ _ _ c.loop-commands.commands (c.in-Some.ensures.stream (subst IsTrue (sym i.source_tells) told)) (i.count told) (i.rest told)
-
-pub returns-in-Some-clause-replies : goal.returns-in-Some-clause-replies
-returns-in-Some-clause-replies g c = λ told sink_told.
-    let i = c.loop-commands.invariant in
-    let source_told = subst IsTrue (sym i.source_tells) told in
-    took-at_end c.in-Some.how c.args.head.now _ _ _ c.loop-commands.commands _ _ _ (c.in-Some.ensures.stream source_told) (i.rest told) (i.text told sink_told)
-    (c.in-Some.ensures.taken source_told (subst IsTrue (sym i.sink_tells) sink_told))
+    let turned = c.in-Some.ensures.turned (subst IsTrue (sym i.shows) shows) (subst IsTrue (sym i.source_tells) tells) (subst IsTrue (sym i.sink_tells) told) in
+    ends_at (g.R.ReadRoot.root c.args.root.now) (g.S.Source.left c.args.src.now) (stream_of c.loop-commands.lines (g.S.Source.left c.loop-commands.src)) (ended_of c.loop-commands.lines) (used_of c.loop-commands.lines) c.loop-commands.commands (g.K.Sink.taken c.args.out.now) (g.K.Sink.taken c.loop-commands.out)
+    (i.progress shows tells told) (g.R.ReadRoot.root c.loop-commands.root) i.root c.in-Some.how (stream_of c.turn.new.lines (g.S.Source.left c.turn.new.src)) (g.S.Source.left c.turn.new.src) (ended_of c.turn.new.lines) (used_of c.turn.new.lines) _ (g.K.Sink.taken c.turn.new.out)
+    (λ e. c.taken_at.ensures.failed e ∙ c.used-taken.ensures)
+    (λ e. c.taken_at.ensures.other e ∙ c.used.ensures)
+    turned

@@ -1,25 +1,29 @@
-use Rattle.std.proofs.Common.{◌≡◌, ◌≤◌, ◌-◌, ◌++◌, length, drop}
+use Rattle.std.proofs.Common.{◌≡◌, ◌≤◌, ◌-◌}
 use Rattle.std.specs.Prelude.{IsTrue}
-use Rattle.edge_app.specs.Script.{lines_of}
-use Rattle.edge_app.specs.Stream.{stream_of, used_of}
-use Rattle.edge_app.specs.Session.{replies_before}
+use Rattle.edge_app.specs.Feeds.{SeesEnd}
+use Rattle.edge_app.specs.Stream.{stream_of, used_of, ended_of}
+use Rattle.edge_app.specs.Turn.{Progress}
 use Rattle.edge_app.proofs.session.serve.Given as goal
 
 abbrev pub invariant-loop-commands : goal.invariant-loop-commands
 invariant-loop-commands g l =
     let source = g.S.Source in
     let sink = g.K.Sink in
-    let script = source.left l.fn.src in
+    let reader = g.R.ReadRoot in
     record {
       few : l.commands ≤ l.limit.lines;
       used : used_of l.lines ≤ l.limit.bytes;
+      seen : SeesEnd (source.tells l.src) (ended_of l.lines) (source.left l.src);
       source_tells : source.tells l.src ≡ source.tells l.fn.src;
       sink_tells : sink.tells l.out ≡ sink.tells l.fn.out;
+      shows : reader.shows l.root ≡ reader.shows l.fn.root;
+      root : reader.root l.root ≡ reader.root l.fn.root;
+      same : reader.same l.fn.root l.root;
       source_faults : source.faults l.src ≡ source.faults l.fn.src;
       sink_faults : sink.faults l.out ≡ sink.faults l.fn.out;
-      count : IsTrue (source.tells l.fn.src) → l.commands ≤ length (lines_of script);
-      rest : IsTrue (source.tells l.fn.src) → drop l.commands (lines_of script) ≡ lines_of (stream_of l.lines (source.left l.src));
-      text : IsTrue (source.tells l.fn.src) → IsTrue (sink.tells l.fn.out) → sink.taken l.out ≡ sink.taken l.fn.out ++ replies_before l.fn.head script l.commands;
+      root_faults : reader.faults l.root ≡ reader.faults l.fn.root;
+      progress : IsTrue (reader.shows l.fn.root) → IsTrue (source.tells l.fn.src) → IsTrue (sink.tells l.fn.out)
+          → Progress (reader.root l.fn.root) (source.left l.fn.src) (stream_of l.lines (source.left l.src)) (ended_of l.lines) (used_of l.lines) l.commands (sink.taken l.fn.out) (sink.taken l.out);
     }
 
 abbrev pub decreases-loop-commands : goal.decreases-loop-commands

@@ -1,20 +1,30 @@
-use Rattle.std.proofs.Common.{◌≡◌, ◌++◌, sym, ap, ◌∙◌, subst, Ok}
-use Rattle.edge_app.specs.Script.{reply_to}
+use Rattle.std.proofs.Common.{◌++◌, ap, ◌∙◌, subst, Ok, Err}
+use Rattle.edge_app.specs.declared.volume.VolumeFault.TheVariants.{Damaged}
+use Rattle.edge_app.specs.Turn.{AnswersTo}
 use Rattle.edge_app.specs.Part.{TookPart}
-use Rattle.edge_app.proofs.SessionLaws.{reply-kept}
+use Rattle.edge_app.proofs.SessionLaws.{meets_damage, answers_line, answers_part}
 use Rattle.edge_app.proofs.session.turn.Goals as goal
 
-pub returns-in-Ok-clause-taken : goal.returns-in-Ok-clause-taken
-returns-in-Ok-clause-taken g c = λ tells told.
+pub returns-in-Err-Damaged-clause-turned : goal.returns-in-Err-Damaged-clause-turned
+returns-in-Err-Damaged-clause-turned g c = λ shows tells told.
     let line = c.next.ensures.line tells (c.in-Ok-Line.is ∙ ap Ok c.in-Ok-Line.field-0-is) in
-    c.in-Ok.ensures.done told
-    ∙ ap (λ r. g.K.Sink.taken c.args.out.now ++ r) (c.as_bytes.ensures.value ∙ c.as_str.ensures.value ∙ c.reply_to.ensures
-    ∙ ap (reply_to c.args.head.now) (c.line.ensures ∙ line.kept_is) ∙ reply-kept c.args.head.now _)
+    let answer = c.in-Err-Damaged.ensures.told shows in
+    meets_damage (g.R.ReadRoot.root c.args.root.now) _ _ _ _ _ _ line c.in-Err-Damaged.damage _
+    (subst (λ l. AnswersTo (g.R.ReadRoot.root c.args.root.now) l (Err (Damaged c.in-Err-Damaged.damage))) c.line.ensures
+    (subst (λ f. AnswersTo (g.R.ReadRoot.root c.args.root.now) c.line.result.now (Err f)) c.in-Err-Damaged.field-0-is answer))
 
-pub returns-in-Err-write_all-clause-taken : goal.returns-in-Err-write_all-clause-taken
-returns-in-Err-write_all-clause-taken g c = λ tells told.
+pub returns-in-Ok-write_all-clause-turned : goal.returns-in-Ok-write_all-clause-turned
+returns-in-Ok-write_all-clause-turned g c = λ shows tells told.
     let line = c.next.ensures.line tells (c.in-Ok-Line.is ∙ ap Ok c.in-Ok-Line.field-0-is) in
-    subst (λ r. TookPart r (g.K.Sink.taken c.args.out.now) (g.K.Sink.taken c.write_all.new.out))
-    (c.as_bytes.ensures.value ∙ c.as_str.ensures.value ∙ c.reply_to.ensures
-    ∙ ap (reply_to c.args.head.now) (c.line.ensures ∙ line.kept_is) ∙ reply-kept c.args.head.now _)
-    (c.in-Err-write_all.ensures.cut told)
+    let answer = c.in-Ok.ensures.told shows in
+    answers_line (g.R.ReadRoot.root c.args.root.now) _ _ _ _ _ _ line c.in-Ok.reply.bytes _ _
+    (subst (λ l. AnswersTo (g.R.ReadRoot.root c.args.root.now) l (Ok c.in-Ok.reply.bytes)) c.line.ensures answer)
+    (c.in-Ok-write_all.ensures.done told ∙ ap (λ r. g.K.Sink.taken c.args.out.now ++ r) (c.as_bytes.ensures.value ∙ c.as_str.ensures.value))
+
+pub returns-in-Err-write_all-clause-turned : goal.returns-in-Err-write_all-clause-turned
+returns-in-Err-write_all-clause-turned g c = λ shows tells told.
+    let line = c.next.ensures.line tells (c.in-Ok-Line.is ∙ ap Ok c.in-Ok-Line.field-0-is) in
+    let answer = c.in-Ok.ensures.told shows in
+    answers_part (g.R.ReadRoot.root c.args.root.now) _ _ _ _ _ _ line c.in-Ok.reply.bytes _ _
+    (subst (λ l. AnswersTo (g.R.ReadRoot.root c.args.root.now) l (Ok c.in-Ok.reply.bytes)) c.line.ensures answer)
+    (subst (λ r. TookPart r (g.K.Sink.taken c.args.out.now) (g.K.Sink.taken c.write_all.new.out)) (c.as_bytes.ensures.value ∙ c.as_str.ensures.value) (c.in-Err-write_all.ensures.cut told))

@@ -1,4 +1,4 @@
-use Rattle.std.proofs.Common.{◌≡◌, ◌≤◌, ◌-◌, ◌+◌, length, drop, sym, ap, ◌∙◌, arith}
+use Rattle.std.proofs.Common.{◌≤◌, ◌-◌, ◌+◌, drop, ap, ◌∙◌, arith}
 use Rattle.edge_app.specs.Stream.{pending, used_of}
 use Rattle.edge_app.proofs.StreamLaws.{ended, begun, piece_of, length-pending}
 use Rattle.edge_app.proofs.lines.LineReader.take_up.Goals as goal
