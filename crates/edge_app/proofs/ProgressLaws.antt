@@ -190,7 +190,7 @@ module _ (root : Result Head Damage) (script stream : List ℕ) (ended : Bool) (
 taken_failed : (script : List ℕ) (taken : ℕ) → lines_taken script taken true ≡ whole_lines (take taken script)
 taken_failed script taken = elim (taken == length script) as (λ t. cond (t && false) (lines_of script) (whole_lines (take taken script)) ≡ whole_lines (take taken script)) [ true ↦ refl | false ↦ refl ]
 
-taken_part : (script : List ℕ) (taken : ℕ) → taken < length script → lines_taken script taken false ≡ whole_lines (take taken script)
+pub taken_part : (script : List ℕ) (taken : ℕ) → taken < length script → lines_taken script taken false ≡ whole_lines (take taken script)
 taken_part script taken part = elim (taken == length script) as (λ t. (taken == length script) ≡ t → cond (t && true) (lines_of script) (whole_lines (take taken script)) ≡ whole_lines (take taken script)) [
   | true ↦ λ e. absurd (let same = eqb-true taken (length script) e in omega arith)
   | false ↦ λ e. refl

@@ -1,6 +1,6 @@
 -- What the end of a session says of all the replies, where the image is ready.
-use Rattle.std.proofs.Common.{◌≡◌, ℕ, zero, suc, ◌+◌, ◌<◌, ◌++◌, ◌⊎◌, inl, inr, Bool, true, false, List, [], ◌∷◌, length, take, drop, Some, Ok, refl, sym, ap, ◌∙◌, subst, arith, append_assoc}
-use Rattle.std.proofs.lemmas.List.{take_at, take_all, take-append-le, drop_more}
+use Rattle.std.proofs.Common.{◌≡◌, ℕ, zero, suc, ◌+◌, ◌<◌, ◌==◌, ◌++◌, ◌⊎◌, inl, inr, Bool, true, false, List, [], ◌∷◌, cond, length, take, drop, Some, Ok, refl, sym, ap, ◌∙◌, subst, arith, append_assoc}
+use Rattle.std.proofs.lemmas.List.{length-take, take_at, take_all, take-append-le, drop_more}
 use Rattle.std.proofs.Math.Seq.{take-append-add}
 use Rattle.edge_base.specs.declared.geometry.Request.{Request}
 use Rattle.edge_base.specs.declared.node.Head.{Head}
@@ -14,8 +14,9 @@ use Rattle.edge_app.specs.Mount.{IsVolume}
 use Rattle.edge_app.specs.Part.{TookPart}
 use Rattle.edge_app.specs.Report.{EndsBy}
 use Rattle.edge_app.specs.declared.report.Report.{Report}
-use Rattle.edge_app.specs.Script.{lines_of, line_at, reply_to, replies_to, reply_with, replies_before}
+use Rattle.edge_app.specs.Script.{lines_of, onto_first_line, whole_lines, onto_whole_line, IsInLimits, line_at, reply_to, replies_to, reply_with, replies_before}
 use Rattle.edge_app.specs.Session.{Ran}
+use Rattle.edge_app.proofs.ProgressLaws.{taken_part}
 use Rattle.edge_app.specs.declared.session.How.{How}
 use Rattle.edge_app.specs.declared.session.How.TheVariants.{End, Source, Sink, Limit, Device, Damaged}
 
@@ -119,3 +120,60 @@ ended_by Sink r ends done = absurd (let e = ends.0 in omega arith)
 ended_by Device r ends done = absurd (let e = ends.0 in omega arith)
 ended_by (Damaged damage) r ends done = absurd (let e = ends.0 in omega arith)
 ended_by Limit r ends done = absurd (let e = ends.0 in omega arith)
+
+-- ---- a script within the limits is answered whole
+
+some_line : (x : ℕ) (lines : List (List ℕ)) → 0 < length (onto_first_line x lines)
+some_line x [] = omega arith
+some_line x (line ∷ lines) = omega arith
+
+one_byte : (x : ℕ) (whole lines : List (List ℕ)) → length whole < length lines → length (onto_whole_line x whole) < length (onto_first_line x lines)
+one_byte x [] lines below = some_line x lines
+one_byte x (one ∷ whole) [] below = absurd (omega arith)
+one_byte x (one ∷ whole) (line ∷ lines) below = below
+
+-- the whole lines of a part are fewer than all the lines
+fewer_whole : (script : List ℕ) (n : ℕ) → n < length script → length (whole_lines (take n script)) < length (lines_of script)
+fewer_whole [] n below = absurd (omega arith)
+fewer_whole (x ∷ script) zero below = elim (x == 10) as (λ t. 0 < length (cond t ([] ∷ lines_of script) (onto_first_line x (lines_of script)))) [
+  | true ↦ omega arith
+  | false ↦ some_line x (lines_of script)
+]
+fewer_whole (x ∷ script) (suc n) below =
+    let rest = fewer_whole script n (omega arith) in
+    elim (x == 10) as (λ t. length (cond t ([] ∷ whole_lines (take n script)) (onto_whole_line x (whole_lines (take n script)))) < length (cond t ([] ∷ lines_of script) (onto_first_line x (lines_of script)))) [
+      | true ↦ omega arith
+      | false ↦ one_byte x (whole_lines (take n script)) (lines_of script) rest
+    ]
+
+not_limited : (head : Head) (script left : List ℕ) (k taken : ℕ) (before after : List ℕ) → IsInLimits script → (k ≡ 4294967295) ⊎ (taken ≡ 1099511627776) → Ran Limit (Ok head) script left k taken before after → ⊥
+not_limited head script left k taken before after within reached ran =
+    let part : taken < length script = ran.answered.1 in
+    let few = within.few in
+    let short = within.short in
+    elim reached [
+      | inl lines ↦
+          let fewer = fewer_whole script taken part in
+          let same = ap length (sym (taken_part script taken part) ∙ ran.answered.0.lines) in
+          let inside = ran.answered.0.inside in
+          omega (arith, length-take k (lines_of script))
+      | inr bytes ↦ omega arith
+    ]
+
+all_of : (how : How) (head : Head) (script left : List ℕ) (k taken : ℕ) (before after : List ℕ) (r : Report) → EndsBy how r → IsInLimits script
+    → (how ≡ Source → ⊥) → (how ≡ Sink → ⊥) → (how ≡ Device → ⊥) → (how ≡ Limit → (k ≡ 4294967295) ⊎ (taken ≡ 1099511627776))
+    → Ran how (Ok head) script left k taken before after → (r.status ≡ 0) ⊎ (r.status ≡ 7)
+all_of End head script left k taken before after r ends within source sink device limit ran = inl ends.0
+all_of Source head script left k taken before after r ends within source sink device limit ran = absurd (source refl)
+all_of Sink head script left k taken before after r ends within source sink device limit ran = absurd (sink refl)
+all_of Device head script left k taken before after r ends within source sink device limit ran = absurd (device refl)
+all_of (Damaged damage) head script left k taken before after r ends within source sink device limit ran = absurd (let e = ran.answered.2 in cc)
+all_of Limit head script left k taken before after r ends within source sink device limit ran = absurd (not_limited head script left k taken before after within (limit refl) ran)
+
+pub is_complete : (image image_then : Image) → image_then ≡ image → (g : Request) (root : List ℕ) (head : Head) → IsReady image head → IsVolume image g root → (how : How) (script left : List ℕ) (k taken : ℕ) (before after : List ℕ)
+    (r : Report) → EndsBy how r → IsInLimits script
+    → (how ≡ Source → ⊥) → (how ≡ Sink → ⊥) → (how ≡ Device → ⊥) → (how ≡ Limit → (k ≡ 4294967295) ⊎ (taken ≡ 1099511627776))
+    → Ran how (head_of g image_then root root_number) script left k taken before after → (r.status ≡ 0) ⊎ (r.status ≡ 7)
+is_complete image image_then same g root head ready volume how script left k taken before after r ends within source sink device limit ran =
+    all_of how head script left k taken before after r ends within source sink device limit
+    (subst (λ t. Ran how t script left k taken before after) (root_then image image_then same g root head ready volume) ran)

@@ -1,5 +1,5 @@
 -- The text of a script and of the replies to it.
-use Rattle.std.specs.Prelude.{◌≡◌, ℕ, ◌==◌, ◌&&◌, not, Bool, false, if◌then◌else◌, List, [], ◌∷◌, ◌++◌, length, take, slice_index_or, Result, Ok, Err, codes, decimal}
+use Rattle.std.specs.Prelude.{◌≡◌, ◌≤◌, ℕ, ◌==◌, ◌&&◌, not, Bool, false, if◌then◌else◌, List, [], ◌∷◌, ◌++◌, length, take, slice_index_or, Result, Ok, Err, codes, decimal}
 use Rattle.std.specs.List.{flat_map}
 use Rattle.std.specs.Str.{bytes_eq}
 use Rattle.edge_base.specs.declared.damage.Damage.{Damage}
@@ -36,6 +36,11 @@ lines_taken script taken failed = if (taken == length script) && not failed then
 -- line k of a script, from 0
 abbrev pub line_at : List ℕ → ℕ → List ℕ
 line_at script k = slice_index_or (lines_of script) k []
+
+-- a script that a session answers whole
+pub record IsInLimits (script : List ℕ) : Type 0 where
+  pub few : length (lines_of script) ≤ 4294967295
+  pub short : length script ≤ 1099511627776
 
 -- ---- replies
 

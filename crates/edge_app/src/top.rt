@@ -1,4 +1,4 @@
-ghost use Rattle.std.specs.Prelude.{◌≡◌, ◌⊎◌, ◌↔◌, ◌++◌, [], ℕ, map, take, IsTrue, IfOk, None, Some, false, vec_len};
+ghost use Rattle.std.specs.Prelude.{◌≡◌, ◌≤◌, ◌⊎◌, ◌↔◌, ◌++◌, [], ℕ, map, take, IsTrue, IsSome, IfOk, None, Some, false, vec_len};
 ghost use Rattle.edge_base.specs.Faults.{Rose};
 ghost use Rattle.edge_base.specs.declared.node.Head.{Head};
 ghost use Rattle.edge_disk.specs.Image.{shown_image};
@@ -6,7 +6,7 @@ ghost use Rattle.edge_image.specs.Image.{reason_of};
 ghost use Rattle.edge_image.specs.Ready.{IsReady};
 ghost use Rattle.edge_app.specs.Mount.{IsUntouched};
 ghost use Rattle.edge_app.specs.Report.{is_status, is_session, has_no_session, Served, Unserved};
-ghost use Rattle.edge_app.specs.Script.{lines_of, replies_to};
+ghost use Rattle.edge_app.specs.Script.{lines_of, replies_to, IsInLimits};
 ghost use Rattle.edge_app.specs.Stream.{pending, used_of, ended_of};
 ghost use Rattle.edge_app.specs.Words.{IsRun};
 
@@ -76,6 +76,8 @@ pub fn edge<S: Source, K: Sink, D: Disk>(
     ensures reason { IsTrue (D.origin disk).shows → result.report.status ≡ 8 → reason_of (shown_image (D.origin disk) (D.shown disk)) ≡ Some result.report.reason }
     ensures mounted { IsTrue (D.origin disk).shows → IsTrue (is_session result.report.status) → reason_of (shown_image (D.origin disk) (D.shown disk)) ≡ None }
     ensures limit { result.report.status ≡ 11 → (result.report.commands ≡ 4294967295) ⊎ (result.report.taken ≡ 1099511627776) }
+    ensures short { result.report.taken ≤ 1099511627776 }
+    ensures damage { result.report.status ≡ 6 → IsSome result.report.damage }
     ensures no_reason { (result.report.status ≡ 8 → ⊥) → result.report.reason ≡ 0 }
     ensures no_damage { (result.report.status ≡ 6 → ⊥) → result.report.damage ≡ None }
 
@@ -93,6 +95,10 @@ pub fn edge<S: Source, K: Sink, D: Disk>(
         → (n : ℕ) × (K.taken out.new ≡ K.taken out.old ++ take n (replies_to head (lines_of (S.left src.old)))) }
     ensures whole { result.report.status ≡ 0 → IsTrue (D.origin disk).shows → IsTrue (S.tells src.old) → IsTrue (K.tells out.old) → (head : Head) → IsReady (shown_image (D.origin disk) (D.shown disk)) head
         → K.taken out.new ≡ K.taken out.old ++ replies_to head (lines_of (S.left src.old)) }
+    ensures complete { IsTrue (D.origin disk).shows → IsTrue (S.tells src.old) → IsTrue (K.tells out.old) → (head : Head) → IsReady (shown_image (D.origin disk) (D.shown disk)) head
+        → IsRun (map (λ word. word.now) words.now) → IsInLimits (S.left src.old)
+        → (Rose (S.faults src.old) (S.faults src.new) → ⊥) → (Rose (K.faults out.old) (K.faults out.new) → ⊥) → (Rose (D.faults disk) (D.faults result.disk) → ⊥)
+        → (result.report.status ≡ 0) ⊎ (result.report.status ≡ 7) }
 {
     if !is_run(words) {
         return Outcome {
