@@ -1,19 +1,19 @@
 -- The lines answered so far, and those that are left of a script.
-use Rattle.std.proofs.Common.{◌≡◌, ℕ, zero, suc, ◌+◌, ◌<◌, ◌++◌, ◌&&◌, ◌==◌, ◌⊎◌, not, Bool, true, false, cond, List, [], ◌∷◌, length, take, drop, refl, sym, ap, ◌∙◌, subst, arith, append_assoc, get_or, Some, inl, inr}
-use Rattle.std.specs.Prelude.{Result}
+use Rattle.std.proofs.Common.{◌≡◌, ℕ, zero, suc, ◌+◌, ◌<◌, ◌≤◌, ◌++◌, ◌&&◌, ◌==◌, ◌⊎◌, not, Bool, true, false, cond, List, [], ◌∷◌, length, take, drop, refl, sym, ap, ◌∙◌, subst, arith, append_assoc, get_or, Some, inl, inr}
+use Rattle.std.specs.Prelude.{Result, nat_lt}
 use Rattle.std.specs.List.{flat_map, list_all}
-use Rattle.std.proofs.lemmas.Bool.{cases_lt, eqb-true, eq-eqb}
+use Rattle.std.proofs.lemmas.Bool.{ltb-true, cases_lt, eqb-true, eq-eqb}
 use Rattle.std.proofs.lemmas.List.{length-append, length-drop, take_more, drop_more, take_all, drop_all, drop-drop, drop_at, take_at, flat_map_more, append-nil}
 use Rattle.std.proofs.Math.Seq.{take-add}
 use Rattle.edge_base.specs.declared.damage.Damage.{Damage}
 use Rattle.edge_base.specs.declared.node.Head.{Head}
 use Rattle.edge_app.specs.declared.session.How.{How}
 use Rattle.edge_app.specs.declared.session.How.TheVariants.{End, Source, Sink, Limit, Device, Damaged}
-use Rattle.edge_app.specs.Script.{lines_of, onto_first_line, whole_lines, onto_whole_line, lines_taken, line_at, asks_root, reply_with, HasReply, replies_before}
+use Rattle.edge_app.specs.Script.{lines_of, onto_first_line, whole_lines, onto_whole_line, joined_lines, HoldsLines, lines_taken, line_at, asks_root, reply_with, HasReply, replies_before}
 use Rattle.edge_app.specs.Feeds.{is_line_feed, HasNoLineFeed, TakesUp}
 use Rattle.edge_app.specs.Part.{TookPart}
 use Rattle.edge_app.specs.Session.{TookOneMore, AnsweredLines, TookReplies, GaveNoMore, Ran}
-use Rattle.edge_app.specs.Turn.{AnswersLine, Turns, joined_lines, Progress}
+use Rattle.edge_app.specs.Turn.{HadRoom, IsBelow, AnswersLine, Turns, Progress}
 use Rattle.edge_app.proofs.StreamLaws.{lines_of-feed}
 
 false_not_true : false ≡ true → ⊥
@@ -106,6 +106,27 @@ module _ (script stream : List ℕ) (used : ℕ) (split : stream ≡ drop used s
   used_front front after used_after e is =
       ap (λ (n : ℕ). take n script) is ∙ take-add used (length front) script
       ∙ ap (λ s. take used script ++ take (length front) s) (sym split ∙ e) ∙ ap (λ r. take used script ++ r) (take_at front after (length front) refl)
+
+-- the bytes used are those of the lines, or all
+holds_lines : (script stream : List ℕ) (ended : Bool) (k used : ℕ) → k ≤ length (lines_of script) → drop k (lines_of script) ≡ lines_of stream → used + length stream ≡ length script
+    → (take used script ≡ joined_lines (take k (lines_of script))) ⊎ ((ended ≡ true) × (stream ≡ [])) → HoldsLines script k used
+holds_lines script stream ended k used inside rest count bytes = record {
+  inside = inside;
+  within = omega arith;
+  bytes = elim bytes [
+    | inl joined ↦ inl joined
+    | inr seen ↦ inr (omega (arith, ap length (rest ∙ ap lines_of seen.1), length-drop k (lines_of script)), omega (arith, ap length seen.1))
+  ];
+}
+
+-- a turn that takes a line up has room for it
+pub is_below : (how : How) (commands lines : ℕ) → HadRoom (Some how) (nat_lt commands lines) → IsBelow how commands lines
+is_below Sink commands lines room = ltb-true commands lines room
+is_below Device commands lines room = ltb-true commands lines room
+is_below (Damaged damage) commands lines room = ltb-true commands lines room
+is_below End commands lines room = tt
+is_below Source commands lines room = tt
+is_below Limit commands lines room = tt
 
 -- ---- from turn to turn
 
@@ -222,7 +243,16 @@ module _ (root : Result Head Damage) (script stream : List ℕ) (ended : Bool) (
         | inr seen ↦ taken_all script used_after (omega (arith, ap length seen.1))
             ∙ sym (take_all (commands + 1) (lines_of script) (omega (arith, ap length (next.left ∙ ap lines_of seen.1), length-drop (commands + 1) (lines_of script))))
       ] in
-      record { inside = next.below; lines = lines }
+      let below = next.below in
+      record {
+        inside = below;
+        lines = lines;
+        bytes = holds_lines script stream_after ended_after (commands + 1) used_after (omega arith) next.left (omega arith)
+            (bytes_more root script stream ended used commands before after p line stream_after ended_after used_after t);
+      }
+
+  pub holds_answered : HoldsLines script commands used
+  holds_answered = holds_lines script stream ended commands used p.inside p.rest p.count p.bytes
 
   -- the next line is the one that was taken up
   is_next : (line stream_after : List ℕ) (ended_after : Bool) (used_after : ℕ) → TakesUp line stream stream_after ended_after used used_after → line_at script commands ≡ line
@@ -260,7 +290,7 @@ module _ (root : Result Head Damage) (script stream : List ℕ) (ended : Bool) (
       (record { inside = p.inside; lines = taken_part script used_after part ∙ ap whole_lines (used_front script stream used p.split t.begun stream_after used_after t.split t.used_is) ∙ only_answered t.begun joined t.no_feed }, part)
       (t.took ∙ p.text) tt
   ends Device stream_after left ended_after used_after sink_after other t =
-      ran Device left used_after sink_after (one_more t.line stream_after ended_after used_after t.takes) (t.took ∙ p.text) tt
+      ran Device left used_after sink_after (one_more t.line stream_after ended_after used_after t.takes, ap asks_root (is_next t.line stream_after ended_after used_after t.takes) ∙ t.asks) (t.took ∙ p.text) tt
   ends (Damaged damage) stream_after left ended_after used_after sink_after other t =
       ran (Damaged damage) left used_after sink_after
       (one_more t.line stream_after ended_after used_after t.takes, ap asks_root (is_next t.line stream_after ended_after used_after t.takes) ∙ t.asks, t.damaged) (t.took ∙ p.text) tt
@@ -274,7 +304,7 @@ module _ (root : Result Head Damage) (script stream : List ℕ) (ended : Bool) (
         | inr seen ↦ absurd (t.not_ended seen.0)
       ] in
       ran Source left used sink_after
-      (record { inside = p.inside; lines = taken_failed script used ∙ ap whole_lines (sym (append-nil (take used script))) ∙ only_answered [] joined refl })
+      (record { inside = p.inside; lines = taken_failed script used ∙ ap whole_lines (sym (append-nil (take used script))) ∙ only_answered [] joined refl }, holds_answered)
       (t.took ∙ p.text) (record { begun = t.begun; split = sym p.split ∙ t.split; no_feed = t.no_feed })
 
   -- the same, however it ended and by the root as it is then: the bytes taken are those before the turn where the source failed, and those after it elsewhere

@@ -10,7 +10,7 @@ use Rattle.edge_app.specs.declared.volume.VolumeFault.TheVariants as faults
 use Rattle.edge_app.specs.Script.{asks_root, stat_line, stat_reply, bad_reply, reply_with, HasReply}
 use Rattle.edge_app.specs.Feeds.{kept_part, TakesLine}
 use Rattle.edge_app.specs.Part.{TookPart}
-use Rattle.edge_app.specs.Turn.{AnswersTo, AnswersLine, AnswersPart, MeetsDamage}
+use Rattle.edge_app.specs.Turn.{AnswersTo, AnswersLine, AnswersPart, LeavesLine, MeetsDamage}
 
 -- what a sink has taken with n bytes more of a piece
 pub took-more : (at n : ℕ) (bytes before now after : List ℕ) → n ≤ length bytes - at → now ≡ before ++ take at bytes
@@ -48,6 +48,14 @@ module _ (root : Result Head Damage) (before after kept : List ℕ) (ended : Boo
     takes = line.takes;
     asks = sym (ap asks_root line.kept_is ∙ asks_root-kept line.line) ∙ told.0;
     damaged = told.1;
+    took = refl;
+  }
+
+  pub leaves_line : (sink : List ℕ) → AnswersTo root kept (Err faults.Device) → LeavesLine before after ended used used_after sink sink
+  leaves_line sink told = record {
+    line = line.line;
+    takes = line.takes;
+    asks = sym (ap asks_root line.kept_is ∙ asks_root-kept line.line) ∙ told;
     took = refl;
   }
 

@@ -1,5 +1,5 @@
 -- What a run reports.
-use Rattle.std.specs.Prelude.{◌≡◌, ◌⊎◌, ℕ, ◌==◌, ◌||◌, Bool, if◌then◌else◌, List, [], ◌++◌, Option, Some, None, codes, decimal}
+use Rattle.std.specs.Prelude.{◌≡◌, ◌⊎◌, ℕ, ◌==◌, ◌||◌, Bool, if◌then◌else◌, List, [], ◌++◌, Option, Some, None, Err, codes, decimal}
 use Rattle.edge_base.specs.declared.damage.Damage.{Damage}
 use Rattle.edge_base.specs.declared.damage.DamageKind.{DamageKind}
 use Rattle.edge_base.specs.declared.damage.DamageKind.TheVariants as kinds
@@ -33,6 +33,15 @@ pub record Served (image : Image) (r : Report) (script left before after : List 
   pub how : How
   pub ended : EndsBy how r
   pub ran : Ran how (head_of g image root root_number) script left r.commands r.taken before after
+
+-- The image is a volume whose root is damaged, and this damage is told.
+pub record MeetsDamage (image : Image) (told : Option Damage) : Type 0 where
+  pub g : Request
+  pub root : List ℕ
+  pub volume : IsVolume image g root
+  pub damage : Damage
+  pub told_is : told ≡ Some damage
+  pub meets : head_of g image root root_number ≡ Err damage
 
 -- No line was taken up, and nothing was written.
 pub record Unserved (r : Report) (script left before after : List ℕ) : Type 0 where

@@ -1,5 +1,5 @@
 -- The text of a script and of the replies to it.
-use Rattle.std.specs.Prelude.{◌≡◌, ◌≤◌, ℕ, ◌==◌, ◌&&◌, not, Bool, false, if◌then◌else◌, List, [], ◌∷◌, ◌++◌, length, take, slice_index_or, Result, Ok, Err, codes, decimal}
+use Rattle.std.specs.Prelude.{◌≡◌, ◌⊎◌, ◌≤◌, ℕ, ◌==◌, ◌&&◌, not, Bool, false, if◌then◌else◌, List, [], ◌∷◌, ◌++◌, length, take, slice_index_or, Result, Ok, Err, codes, decimal}
 use Rattle.std.specs.List.{flat_map}
 use Rattle.std.specs.Str.{bytes_eq}
 use Rattle.edge_base.specs.declared.damage.Damage.{Damage}
@@ -36,6 +36,16 @@ lines_taken script taken failed = if (taken == length script) && not failed then
 -- line k of a script, from 0
 abbrev pub line_at : List ℕ → ℕ → List ℕ
 line_at script k = slice_index_or (lines_of script) k []
+
+-- lines, each with its line feed
+abbrev pub joined_lines : List (List ℕ) → List ℕ
+joined_lines lines = flat_map (λ line. line ++ 10 ∷ []) lines
+
+-- The first `taken` bytes of a script are its first k lines, each with its line feed, or all its bytes where these are all its lines.
+pub record HoldsLines (script : List ℕ) (k taken : ℕ) : Type 0 where
+  pub inside : k ≤ length (lines_of script)
+  pub within : taken ≤ length script
+  pub bytes : (take taken script ≡ joined_lines (take k (lines_of script))) ⊎ ((k ≡ length (lines_of script)) × (taken ≡ length script))
 
 -- a script that a session answers whole
 pub record IsInLimits (script : List ℕ) : Type 0 where

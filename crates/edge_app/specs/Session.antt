@@ -6,7 +6,7 @@ use Rattle.edge_app.specs.declared.session.How.{How}
 use Rattle.edge_app.specs.declared.session.How.TheVariants.{End, Source, Sink, Limit, Device, Damaged}
 use Rattle.edge_app.specs.Part.{TookPart}
 use Rattle.edge_app.specs.Feeds.{HasNoLineFeed}
-use Rattle.edge_app.specs.Script.{lines_of, lines_taken, line_at, asks_root, HasReply, reply_with, replies_before}
+use Rattle.edge_app.specs.Script.{lines_of, HoldsLines, lines_taken, line_at, asks_root, HasReply, reply_with, replies_before}
 
 -- the lines taken are those answered
 pub record TookAnswered (script : List ℕ) (commands taken : ℕ) (failed : Bool) : Type 0 where
@@ -17,14 +17,15 @@ pub record TookAnswered (script : List ℕ) (commands taken : ℕ) (failed : Boo
 pub record TookOneMore (script : List ℕ) (commands taken : ℕ) : Type 0 where
   pub inside : commands < length (lines_of script)
   pub lines : lines_taken script taken false ≡ take (commands + 1) (lines_of script)
+  pub bytes : HoldsLines script (commands + 1) taken
 
 -- How many lines of a script are answered, and how many of its bytes are in the lines taken.
 abbrev pub AnsweredLines : How → Result Head Damage → List ℕ → ℕ → ℕ → Type 0
 AnsweredLines End root script commands taken = (commands ≡ length (lines_of script)) × (taken ≡ length script)
-AnsweredLines Source root script commands taken = TookAnswered script commands taken true
+AnsweredLines Source root script commands taken = TookAnswered script commands taken true × HoldsLines script commands taken
 AnsweredLines Limit root script commands taken = TookAnswered script commands taken false × (taken < length script)
 AnsweredLines Sink root script commands taken = TookOneMore script commands taken
-AnsweredLines Device root script commands taken = TookOneMore script commands taken
+AnsweredLines Device root script commands taken = TookOneMore script commands taken × (asks_root (line_at script commands) ≡ true)
 AnsweredLines (Damaged damage) root script commands taken =
     TookOneMore script commands taken × (asks_root (line_at script commands) ≡ true) × (root ≡ Err damage)
 

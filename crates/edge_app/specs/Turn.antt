@@ -1,6 +1,5 @@
 -- One turn of a session.
-use Rattle.std.specs.Prelude.{◌≡◌, ◌⊎◌, ◌<◌, ◌≤◌, ℕ, ◌+◌, Bool, true, List, [], ◌∷◌, ◌++◌, length, take, drop, Option, Some, None, Result, Ok, Err}
-use Rattle.std.specs.List.{flat_map}
+use Rattle.std.specs.Prelude.{◌≡◌, ◌⊎◌, ◌<◌, ◌≤◌, ℕ, ◌+◌, Bool, true, List, [], ◌++◌, length, take, drop, Option, Some, None, Result, Ok, Err}
 use Rattle.edge_base.specs.Faults.{Rose}
 use Rattle.edge_base.specs.declared.damage.Damage.{Damage}
 use Rattle.edge_base.specs.declared.node.Head.{Head}
@@ -8,7 +7,7 @@ use Rattle.edge_app.specs.declared.session.How.{How}
 use Rattle.edge_app.specs.declared.session.How.TheVariants.{End, Source, Sink, Limit, Device, Damaged}
 use Rattle.edge_app.specs.declared.volume.VolumeFault.{VolumeFault}
 use Rattle.edge_app.specs.declared.volume.VolumeFault.TheVariants as faults
-use Rattle.edge_app.specs.Script.{lines_of, line_at, asks_root, HasReply, reply_with, replies_before}
+use Rattle.edge_app.specs.Script.{lines_of, joined_lines, line_at, asks_root, HasReply, reply_with, replies_before}
 use Rattle.edge_app.specs.Feeds.{HasNoLineFeed, TakesUp}
 use Rattle.edge_app.specs.Part.{TookPart}
 
@@ -44,12 +43,33 @@ RootCount (Some Limit) before after = after ≡ before
 RootCount (Some (Damaged damage)) before after = after ≡ before
 RootCount None before after = after ≡ before
 
+-- ---- room for a further line
+
+-- A turn that takes a line up had room for it.
+abbrev pub HadRoom : Option How → Bool → Type 0
+HadRoom None has_room = has_room ≡ true
+HadRoom (Some Sink) has_room = has_room ≡ true
+HadRoom (Some Device) has_room = has_room ≡ true
+HadRoom (Some (Damaged damage)) has_room = has_room ≡ true
+HadRoom (Some End) has_room = Unit {0}
+HadRoom (Some Source) has_room = Unit {0}
+HadRoom (Some Limit) has_room = Unit {0}
+
+-- and so a session that ends with a line that was not answered has answered fewer than it may
+abbrev pub IsBelow : How → ℕ → ℕ → Type 0
+IsBelow Sink commands lines = commands < lines
+IsBelow Device commands lines = commands < lines
+IsBelow (Damaged damage) commands lines = commands < lines
+IsBelow End commands lines = Unit {0}
+IsBelow Source commands lines = Unit {0}
+IsBelow Limit commands lines = Unit {0}
+
 -- ---- an answer to a line
 
 abbrev pub AnswersTo : Result Head Damage → List ℕ → Result (List ℕ) VolumeFault → Type 0
 AnswersTo root line (Ok reply) = HasReply root line × (reply ≡ reply_with root line)
 AnswersTo root line (Err (faults.Damaged damage)) = (asks_root line ≡ true) × (root ≡ Err damage)
-AnswersTo root line (Err faults.Device) = Unit {0}
+AnswersTo root line (Err faults.Device) = asks_root line ≡ true
 
 -- ---- a turn
 
@@ -66,10 +86,11 @@ pub record AnswersPart (root : Result Head Damage) (stream stream_after : List �
   pub takes : TakesUp line stream stream_after ended_after used used_after
   pub part : TookPart (reply_with root line) sink sink_after
 
--- a line was taken up, and not answered
+-- a line that asks for the root was taken up, and not answered
 pub record LeavesLine (stream stream_after : List ℕ) (ended_after : Bool) (used used_after : ℕ) (sink sink_after : List ℕ) : Type 0 where
   pub line : List ℕ
   pub takes : TakesUp line stream stream_after ended_after used used_after
+  pub asks : asks_root line ≡ true
   pub took : sink_after ≡ sink
 
 -- the same, since the root is damaged
@@ -115,10 +136,6 @@ Turns (Some Device) root stream stream_after left ended ended_after used used_af
 Turns (Some (Damaged damage)) root stream stream_after left ended ended_after used used_after sink sink_after = MeetsDamage damage root stream stream_after ended_after used used_after sink sink_after
 
 -- ---- the turns so far
-
--- lines, each with its line feed
-abbrev pub joined_lines : List (List ℕ) → List ℕ
-joined_lines lines = flat_map (λ line. line ++ 10 ∷ []) lines
 
 -- The first lines of a script are answered, and this is left of it. The bytes used are those lines, but where the last had no line feed.
 pub record Progress (root : Result Head Damage) (script stream : List ℕ) (ended : Bool) (used commands : ℕ) (before after : List ℕ) : Type 0 where

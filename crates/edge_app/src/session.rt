@@ -1,10 +1,12 @@
-ghost use Rattle.std.specs.Prelude.{◌≡◌, ◌⊎◌, ◌≤◌, ◌++◌, [], IsTrue, OnOk, OnErr, Some, None, true, false};
+ghost use Rattle.std.specs.Prelude.{◌≡◌, ◌⊎◌, ◌≤◌, ◌++◌, [], IsTrue, OnOk, OnErr, Some, None, Err, true, false};
 ghost use Rattle.edge_base.specs.Faults.{HasCause};
 ghost use Rattle.edge_app.specs.Feeds.{SeesEnd};
 ghost use Rattle.edge_app.specs.Part.{TookPart};
+ghost use Rattle.edge_base.specs.declared.damage.Damage.{Damage};
+ghost use Rattle.edge_app.specs.Script.{HoldsLines};
 ghost use Rattle.edge_app.specs.Session.{Ran};
 ghost use Rattle.edge_app.specs.Stream.{pending, stream_of, used_of, ended_of};
-ghost use Rattle.edge_app.specs.Turn.{SourceCount, SinkCount, RootCount, Turns};
+ghost use Rattle.edge_app.specs.Turn.{SourceCount, SinkCount, RootCount, HadRoom, IsBelow, Turns};
 
 use crate::lines::{LineReader, Next};
 use crate::reply::answer;
@@ -83,9 +85,11 @@ fn turn<S: Source, K: Sink, R: ReadRoot>(
     ensures device { RootCount result (R.faults root.old) (R.faults root.new) }
 
     ensures used { used_of lines.new ≤ bytes }
-    ensures room { result ≡ None → has_room ≡ true }
+    ensures room { HadRoom result has_room }
     ensures limit { result ≡ Some How.Limit → (has_room ≡ false) ⊎ (used_of lines.new ≡ bytes) }
+    ensures no_room { has_room ≡ false → used_of lines.new ≡ used_of lines.old }
     ensures end { IsTrue (S.tells src.old) → result ≡ Some How.End → S.left src.new ≡ [] }
+    ensures damaged { IsTrue (R.shows root.old) → (damage : Damage) → result ≡ Some (How.Damaged damage) → R.root root.old ≡ Err damage }
     ensures turned { IsTrue (R.shows root.old) → IsTrue (S.tells src.old) → IsTrue (K.tells out.old)
         → Turns result (R.root root.old) (stream_of lines.old (S.left src.old)) (stream_of lines.new (S.left src.new)) (S.left src.new)
         (ended_of lines.old) (ended_of lines.new) (used_of lines.old) (used_of lines.new) (K.taken out.old) (K.taken out.new) }
@@ -148,8 +152,12 @@ pub fn serve<S: Source, K: Sink, R: ReadRoot>(
 
     ensures few { result.commands ≤ limit.lines }
     ensures short { result.taken ≤ limit.bytes }
+    ensures room { IsBelow result.how result.commands limit.lines }
     ensures limit { result.how ≡ How.Limit → (result.commands ≡ limit.lines) ⊎ (result.taken ≡ limit.bytes) }
+    ensures limit_bytes { IsTrue (R.shows root.old) → IsTrue (S.tells src.old) → IsTrue (K.tells out.old) → result.how ≡ How.Limit
+        → HoldsLines (S.left src.old) result.commands result.taken ⊎ (result.taken ≡ limit.bytes) }
     ensures end { IsTrue (S.tells src.old) → result.how ≡ How.End → S.left src.new ≡ [] }
+    ensures damaged { IsTrue (R.shows root.old) → (damage : Damage) → result.how ≡ How.Damaged damage → R.root root.old ≡ Err damage }
     ensures ran { IsTrue (R.shows root.old) → IsTrue (S.tells src.old) → IsTrue (K.tells out.old)
         → Ran result.how (R.root root.old) (S.left src.old) (S.left src.new) result.commands result.taken (K.taken out.old) (K.taken out.new) }
 {

@@ -1,12 +1,12 @@
-ghost use Rattle.std.specs.Prelude.{◌≡◌, ◌≤◌, ◌⊎◌, ◌↔◌, ◌++◌, [], ℕ, map, take, IsTrue, IsSome, IfOk, None, Some, false, vec_len};
+ghost use Rattle.std.specs.Prelude.{◌≡◌, ◌<◌, ◌≤◌, ◌⊎◌, ◌↔◌, ◌++◌, [], ℕ, map, take, IsTrue, IfOk, None, Some, false, vec_len};
 ghost use Rattle.edge_base.specs.Faults.{Rose};
 ghost use Rattle.edge_base.specs.declared.node.Head.{Head};
 ghost use Rattle.edge_disk.specs.Image.{shown_image};
 ghost use Rattle.edge_image.specs.Image.{reason_of};
 ghost use Rattle.edge_image.specs.Ready.{IsReady};
 ghost use Rattle.edge_app.specs.Mount.{IsUntouched};
-ghost use Rattle.edge_app.specs.Report.{is_status, is_session, has_no_session, Served, Unserved};
-ghost use Rattle.edge_app.specs.Script.{lines_of, replies_to, IsInLimits};
+ghost use Rattle.edge_app.specs.Report.{is_status, is_session, has_no_session, MeetsDamage, Served, Unserved};
+ghost use Rattle.edge_app.specs.Script.{HoldsLines, lines_of, replies_to, IsInLimits};
 ghost use Rattle.edge_app.specs.Stream.{pending, used_of, ended_of};
 ghost use Rattle.edge_app.specs.Words.{IsRun};
 
@@ -73,11 +73,17 @@ pub fn edge<S: Source, K: Sink, D: Disk>(
     ensures source { result.report.status ≡ 3 → Rose (S.faults src.old) (S.faults src.new) }
     ensures sink { result.report.status ≡ 4 → Rose (K.faults out.old) (K.faults out.new) }
     ensures device { result.report.status ≡ 5 → Rose (D.faults disk) (D.faults result.disk) }
+    ensures source_still { (result.report.status ≡ 3 → ⊥) → S.faults src.new ≡ S.faults src.old }
+    ensures sink_still { (result.report.status ≡ 4 → ⊥) → K.faults out.new ≡ K.faults out.old }
+    ensures device_still { (result.report.status ≡ 5 → ⊥) → D.faults result.disk ≡ D.faults disk }
     ensures reason { IsTrue (D.origin disk).shows → result.report.status ≡ 8 → reason_of (shown_image (D.origin disk) (D.shown disk)) ≡ Some result.report.reason }
     ensures mounted { IsTrue (D.origin disk).shows → IsTrue (is_session result.report.status) → reason_of (shown_image (D.origin disk) (D.shown disk)) ≡ None }
     ensures limit { result.report.status ≡ 11 → (result.report.commands ≡ 4294967295) ⊎ (result.report.taken ≡ 1099511627776) }
+    ensures limit_bytes { IsTrue (D.origin disk).shows → IsTrue (S.tells src.old) → IsTrue (K.tells out.old) → result.report.status ≡ 11
+        → HoldsLines (S.left src.old) result.report.commands result.report.taken ⊎ (result.report.taken ≡ 1099511627776) }
     ensures short { result.report.taken ≤ 1099511627776 }
-    ensures damage { result.report.status ≡ 6 → IsSome result.report.damage }
+    ensures room { (result.report.status ≡ 4) ⊎ (result.report.status ≡ 5) ⊎ (result.report.status ≡ 6) → result.report.commands < 4294967295 }
+    ensures damage { IsTrue (D.origin disk).shows → result.report.status ≡ 6 → MeetsDamage (shown_image (D.origin disk) (D.shown disk)) result.report.damage }
     ensures no_reason { (result.report.status ≡ 8 → ⊥) → result.report.reason ≡ 0 }
     ensures no_damage { (result.report.status ≡ 6 → ⊥) → result.report.damage ≡ None }
 
@@ -89,7 +95,7 @@ pub fn edge<S: Source, K: Sink, D: Disk>(
     ensures end { result.report.status ≡ 0 → IsTrue (S.tells src.old) → S.left src.new ≡ [] }
 
     // The same where the image is ready.
-    ensures ready { IsTrue (D.origin disk).shows → IsTrue (S.tells src.old) → IsTrue (K.tells out.old) → (head : Head) → IsReady (shown_image (D.origin disk) (D.shown disk)) head
+    ensures ready { IsTrue (D.origin disk).shows → (head : Head) → IsReady (shown_image (D.origin disk) (D.shown disk)) head
         → (result.report.status ≡ 6) ⊎ (result.report.status ≡ 8) → ⊥ }
     ensures prefix { IsTrue (D.origin disk).shows → IsTrue (S.tells src.old) → IsTrue (K.tells out.old) → (head : Head) → IsReady (shown_image (D.origin disk) (D.shown disk)) head
         → (n : ℕ) × (K.taken out.new ≡ K.taken out.old ++ take n (replies_to head (lines_of (S.left src.old)))) }

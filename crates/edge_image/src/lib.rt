@@ -3,18 +3,28 @@
 //! without effects.
 #![tactic(auto)]
 
-ghost use Rattle.std.specs.Prelude.{◌≡◌, ◌↔◌, None, Some, Ok};
+ghost use Rattle.std.specs.Prelude.{◌≡◌, ◌↔◌, ℕ, List, None, Some, Ok};
 ghost use Rattle.edge_base.specs.declared.geometry.Request.{Request};
 ghost use Rattle.edge_base.specs.declared.node.Head.{Head};
 ghost use Rattle.edge_base.specs.declared.node.Master.{Master};
 ghost use Rattle.edge_base.specs.Spelling.{master_in};
 ghost use Rattle.edge_disk.specs.Image.{Image};
-ghost use Rattle.edge_image.specs.Image.{Live, live_of, reason_of, head_of, root_number};
-ghost use Rattle.edge_image.specs.Ready.{IsReady, IsLive};
+ghost use Rattle.edge_image.specs.Image.{Live, live_of, used_place, place_of, reason_of, head_of, root_number};
+ghost use Rattle.edge_image.specs.Ready.{IsReady, IsLive, IsMountable};
 
 /// The live metaroot is the valid one that no other beats, and there is no other such one.
 pub fn live_is_the_greater()
     ensures { (g : Request) (image : Image) (live : Live) → (live_of g image ≡ Some live) ↔ IsLive g image live }
+{}
+
+/// An image is mounted where no reason holds: with one master and one live metaroot, of which this is so.
+pub fn mounts_without_a_reason()
+    ensures { (image : Image) → (reason_of image ≡ None) ↔ ((master : Master) × (live : Live) × IsMountable image master live) }
+{}
+
+/// A number's inode has one place where exactly one of its two places is used.
+pub fn place_is_the_used_one()
+    ensures { (g : Request) (root : List ℕ) (number place : ℕ) → (used_place g root number ≡ Some place) ↔ (place_of g root number ≡ Ok place) }
 {}
 
 /// An image is ready with one head alone.

@@ -1,9 +1,9 @@
-use Rattle.std.proofs.Common.{sym, ◌∙◌, subst, arith, Some, refl, ℕ}
+use Rattle.std.proofs.Common.{sym, ◌∙◌, subst, arith, Some, ℕ}
 use Rattle.std.specs.Prelude.{IsTrue}
 use Rattle.std.proofs.lemmas.Bool.{ltb-true}
 use Rattle.edge_app.specs.Stream.{stream_of, used_of, ended_of}
 use Rattle.edge_app.specs.Turn.{SourceCount, SinkCount, RootCount}
-use Rattle.edge_app.proofs.ProgressLaws.{goes_on, ends_at}
+use Rattle.edge_app.proofs.ProgressLaws.{is_below, goes_on, ends_at}
 use Rattle.edge_app.proofs.session.serve.Goals as goal
 
 pub loop-commands-preserved : goal.loop-commands-preserved
@@ -11,7 +11,7 @@ loop-commands-preserved g c =
     let i = c.loop-commands.invariant in
     let t = c.in-None.ensures in
     record {
-      few = omega (arith, ltb-true c.loop-commands.commands c.args.limit.lines (t.room refl));
+      few = omega (arith, ltb-true c.loop-commands.commands c.args.limit.lines t.room);
       used = t.used;
       seen = t.seen;
       source_tells = t.source_tells ∙ i.source_tells;
@@ -39,6 +39,9 @@ returns-in-Some-clause-sink g c = subst (λ (n : ℕ). SinkCount (Some c.in-Some
 
 pub returns-in-Some-clause-device : goal.returns-in-Some-clause-device
 returns-in-Some-clause-device g c = subst (λ (n : ℕ). RootCount (Some c.in-Some.how) n (g.R.ReadRoot.faults c.turn.new.root)) c.loop-commands.invariant.root_faults c.in-Some.ensures.device
+
+pub returns-in-Some-clause-room : goal.returns-in-Some-clause-room
+returns-in-Some-clause-room g c = is_below c.in-Some.how c.loop-commands.commands c.args.limit.lines c.in-Some.ensures.room
 
 pub returns-in-Some-clause-ran : goal.returns-in-Some-clause-ran
 returns-in-Some-clause-ran g c = λ shows tells told.
