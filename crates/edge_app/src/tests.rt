@@ -374,7 +374,7 @@ fn the_newer_metaroot_is_live(rt: HostRuntime) -> Result<(), Fail> {
 #[test]
 fn damage_of_the_root_is_told(rt: HostRuntime) -> Result<(), Fail> {
     let alloc = rt.alloc();
-    let rows: [(&[Change], u32, DamageKind, &str); 9] = [
+    let rows: [(&[Change], u32, DamageKind, &str); 8] = [
         (&[Byte(3, 4, 0)], 3, DamageKind::WrongWord, "3 kind 2"),
         (&[Byte(3, 7, 0)], 3, DamageKind::WrongWord, "3 kind 2"),
         (
@@ -386,12 +386,6 @@ fn damage_of_the_root_is_told(rt: HostRuntime) -> Result<(), Fail> {
         (&[Byte(3, 24, 3)], 3, DamageKind::WrongField, "3 kind 3"),
         (&[Byte(3, 26, 0)], 3, DamageKind::WrongField, "3 kind 3"),
         (&[Byte(1, 32, 2)], 4, DamageKind::WrongSignature, "4 kind 1"),
-        (
-            &[Byte(1, 32, 2), Copied(3, 4), Byte(4, 4, 0)],
-            4,
-            DamageKind::WrongWord,
-            "4 kind 2",
-        ),
         (&[Byte(1, 32, 3)], 3, DamageKind::TwoPlaces, "3 kind 7"),
         (
             &[Byte(1, 32, 0), Byte(1, 20, 1)],
