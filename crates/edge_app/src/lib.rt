@@ -6,6 +6,8 @@ mod mount;
 mod reply;
 mod report;
 mod session;
+#[cfg(test)]
+mod tests;
 mod top;
 mod volume;
 mod words;
