@@ -76,6 +76,7 @@ pub fn edge<S: Source, K: Sink, D: Disk>(
     ensures source_still { (result.report.status ≡ 3 → ⊥) → S.faults src.new ≡ S.faults src.old }
     ensures sink_still { (result.report.status ≡ 4 → ⊥) → K.faults out.new ≡ K.faults out.old }
     ensures device_still { (result.report.status ≡ 5 → ⊥) → D.faults result.disk ≡ D.faults disk }
+    ensures no_call { (result.report.status ≡ 2) ⊎ (result.report.status ≡ 7) → result.disk ≡ disk }
     ensures reason { IsTrue (D.origin disk).shows → result.report.status ≡ 8 → reason_of (shown_image (D.origin disk) (D.shown disk)) ≡ Some result.report.reason }
     ensures mounted { IsTrue (D.origin disk).shows → IsTrue (is_session result.report.status) → reason_of (shown_image (D.origin disk) (D.shown disk)) ≡ None }
     ensures limit { result.report.status ≡ 11 → (result.report.commands ≡ 4294967295) ⊎ (result.report.taken ≡ 1099511627776) }
