@@ -1,6 +1,6 @@
 ghost use Rattle.std.specs.Prelude.{◌≡◌, ◌<◌, ◌^◌, length};
 
-use crate::{DeviceFault, Disk, MemoryDisk};
+use crate::{DeviceFault, Disk, MemoryDisk, SureDisk};
 use std::alloc::{AllocError, Global};
 use std::process::Abort;
 use std::test::Fail;
@@ -72,6 +72,24 @@ fn calls_fail_by_the_list_and_for_want_of_room(rt: HostRuntime) -> Result<(), Fa
         (Call::Write(4), None),
         (Call::Flush, Some(0)),
         (Call::Write(3), None),
+        (Call::Read, Some(5)),
+    ];
+    expect(&rt, &mut disk, &mut block, &calls);
+    Ok(())
+}
+
+#[test]
+fn a_sure_disk_answers_each_call(rt: HostRuntime) -> Result<(), Fail> {
+    let alloc = rt.alloc();
+    let image = vec![in alloc; 7u8; 1600]?;
+    let mut block = vec![in alloc; 0u8; 512]?;
+    let mut disk = SureDisk::new(alloc, 512, &image)?;
+    assert_eq!(rt; (disk.blocks(), disk.block_size()), (3, 512));
+    let calls = [
+        (Call::Read, Some(7)),
+        (Call::Write(9), Some(9)),
+        (Call::Write(5), Some(5)),
+        (Call::Flush, Some(0)),
         (Call::Read, Some(5)),
     ];
     expect(&rt, &mut disk, &mut block, &calls);
