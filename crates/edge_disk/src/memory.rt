@@ -4,7 +4,7 @@ ghost use Rattle.edge_disk.specs.Slots.{AllBlocksHave, AllSlotsHave};
 
 use crate::disk::{DeviceFault, Disk};
 use crate::make::{empty_slots, split};
-use crate::slot::{Slot, remember, set_block};
+use crate::slot::{Slot, count_of, remember, set_block};
 use std::alloc::{AllocError, Global};
 
 /// A disk in memory, which fails where it was told to, and where it has no room left.
@@ -163,7 +163,7 @@ impl Disk for MemoryDisk {
 
 impl MemoryDisk {
     ghost use Rattle.std.specs.Prelude.{◌/◌, ◌*◌, ◌∷◌, ℕ, slice_range, true, IfOk};
-    ghost use Rattle.edge_disk.specs.Memory.{origin_of, shown_of, is_sure_of, faults_of, fails_of, calls_of, room_of, used_of};
+    ghost use Rattle.edge_disk.specs.Memory.{origin_of, shown_of, candidates_of, is_sure_of, faults_of, fails_of, calls_of, room_of, used_of};
 
     /// A disk of the whole blocks of an image, with one candidate each. The calls whose numbers are in
     /// `fails` will fail. Besides one candidate for each block there is room for `room` more.
@@ -206,5 +206,20 @@ impl MemoryDisk {
             calls: 0,
             faults: 0,
         })
+    }
+
+    /// How many calls of `read`, `write` and `flush` there have been. It stays at 2^64 - 1 once it is there.
+    pub fn calls(&self) -> u64
+        ensures { result ≡ calls_of self.now }
+    {
+        self.calls
+    }
+
+    /// The number of candidates of block `b`, 1 at least.
+    pub fn loose(&self, b: u32) -> u32
+        requires in_range { b < (origin_of self.now).blocks }
+        ensures { result ≡ length (candidates_of self.now b) }
+    {
+        1 + count_of(&self.slots[..self.used], b) as u32
     }
 }

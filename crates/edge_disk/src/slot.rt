@@ -1,5 +1,5 @@
-ghost use Rattle.std.specs.Prelude.{◌≡◌, ◌≢◌, ◌<◌, ℕ, length};
-ghost use Rattle.edge_disk.specs.Slots.{block_in, AllBlocksHave, AllSlotsHave, Remembers};
+ghost use Rattle.std.specs.Prelude.{◌≡◌, ◌≢◌, ◌<◌, ◌≤◌, ℕ, length};
+ghost use Rattle.edge_disk.specs.Slots.{block_in, remembered, AllBlocksHave, AllSlotsHave, Remembers};
 
 /// A candidate that was remembered for a block.
 #[derive(Drop)]
@@ -32,4 +32,12 @@ pub fn remember(slots: &mut Vec<Slot>, used: usize, block: u32, bytes: &[u8])
     let slot = &mut slots[used];
     slot.block = block;
     slot.bytes.copy_from_slice(bytes);
+}
+
+/// How many of these slots are the block's.
+pub fn count_of(slots: &[Slot], block: u32) -> usize
+    ensures count { result ≡ length (remembered block slots.now) }
+    ensures few { result ≤ length slots.now }
+{
+    slots.iter().filter(|slot| slot.block == block).count()
 }

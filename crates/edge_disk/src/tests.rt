@@ -1,4 +1,5 @@
 ghost use Rattle.std.specs.Prelude.{◌≡◌, ◌<◌, ◌^◌, length};
+ghost use Rattle.edge_disk.specs.Memory.{origin_of};
 
 use crate::{DeviceFault, Disk, MemoryDisk, SureDisk};
 use std::alloc::{AllocError, Global};
@@ -75,6 +76,47 @@ fn calls_fail_by_the_list_and_for_want_of_room(rt: HostRuntime) -> Result<(), Fa
         (Call::Read, Some(5)),
     ];
     expect(&rt, &mut disk, &mut block, &calls);
+    Ok(())
+}
+
+// After each call on block 1: how many calls there were, and how many candidates the block has.
+fn expect_counts(
+    rt: &impl Abort,
+    disk: &mut MemoryDisk,
+    block: &mut [u8],
+    calls: &[(Call, u64, u32)],
+)
+    requires in_range { 1 < (origin_of disk.old).blocks }
+    requires whole { length block.old ≡ (origin_of disk.old).block_size }
+{
+    for (call, number, candidates) in calls {
+        let _byte = byte_after(disk, *call, block);
+        assert_eq!(rt;
+            (disk.calls(), disk.loose(1)),
+            (*number, *candidates),
+            "{call:?}"
+        );
+    }
+}
+
+#[test]
+fn calls_and_candidates_are_counted(rt: HostRuntime) -> Result<(), Fail> {
+    let alloc = rt.alloc();
+    let image = vec![in alloc; 7u8; 1600]?;
+    let mut block = vec![in alloc; 0u8; 512]?;
+    let mut disk = MemoryDisk::new(alloc, 512, &image, 2, &[4])?;
+
+    // Call 4 fails, and its bytes are a candidate. From then on no candidate goes.
+    let calls = [
+        (Call::Read, 1, 1),
+        (Call::Write(9), 2, 2),
+        (Call::Flush, 3, 1),
+        (Call::Write(5), 4, 2),
+        (Call::Write(4), 5, 3),
+        (Call::Flush, 6, 3),
+        (Call::Write(3), 7, 3),
+    ];
+    expect_counts(&rt, &mut disk, &mut block, &calls);
     Ok(())
 }
 
