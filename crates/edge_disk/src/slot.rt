@@ -1,4 +1,4 @@
-ghost use Rattle.std.specs.Prelude.{◌≡◌, ◌≢◌, ◌<◌, ◌≤◌, ℕ, length};
+ghost use Rattle.std.specs.Prelude.{◌≡◌, ◌≢◌, ◌<◌, ◌≤◌, ◌==◌, ℕ, length, filter, slice_get, option_map};
 ghost use Rattle.edge_disk.specs.Slots.{block_in, remembered, AllBlocksHave, AllSlotsHave, Remembers};
 
 /// A candidate that was remembered for a block.
@@ -40,4 +40,11 @@ pub fn count_of(slots: &[Slot], block: u32) -> usize
     ensures few { result ≤ length slots.now }
 {
     slots.iter().filter(|slot| slot.block == block).count()
+}
+
+/// The slot at `index` among those of these that are the block's, the oldest first.
+pub fn nth_of(slots: &[Slot], block: u32, index: usize) -> Option<&Slot>
+    ensures { option_map (λ s. s.now) result ≡ slice_get (filter (λ s. s.block == block) slots.now) index }
+{
+    slots.iter().filter(|slot| slot.block == block).nth(index)
 }

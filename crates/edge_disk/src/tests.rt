@@ -120,6 +120,32 @@ fn calls_and_candidates_are_counted(rt: HostRuntime) -> Result<(), Fail> {
     Ok(())
 }
 
+// The first byte of block 1 in the image in which it holds this candidate, and none where it has no such one.
+fn permitted_byte(alloc: Global, disk: &MemoryDisk, pick: u32) -> Result<Option<u8>, AllocError>
+    requires { (origin_of disk.now).blocks ≡ 3 }
+{
+    if disk.loose(1) <= pick {
+        return Ok(None);
+    }
+    let bytes = disk.permitted(alloc, &[0, pick, 0])?;
+    Ok(bytes.get(512).copied())
+}
+
+#[test]
+fn a_permitted_image_holds_what_was_picked(rt: HostRuntime) -> Result<(), Fail> {
+    let alloc = rt.alloc();
+    let image = vec![in alloc; 7u8; 1600]?;
+    let mut block = vec![in alloc; 0u8; 512]?;
+    let mut disk = MemoryDisk::new(alloc, 512, &image, 2, &[1])?;
+    let shown = byte_after(&mut disk, Call::Write(9), &mut block);
+    let lost = byte_after(&mut disk, Call::Write(5), &mut block);
+    assert_eq!(rt; (shown, lost), (Some(9), None));
+    for (pick, byte) in [(0, Some(9)), (1, Some(7)), (2, Some(5)), (3, None)] {
+        assert_eq!(rt; permitted_byte(alloc, &disk, pick)?, byte, "{pick}");
+    }
+    Ok(())
+}
+
 #[test]
 fn a_sure_disk_answers_each_call(rt: HostRuntime) -> Result<(), Fail> {
     let alloc = rt.alloc();
