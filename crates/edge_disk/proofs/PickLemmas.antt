@@ -1,5 +1,5 @@
 -- The image in which each block holds the candidate that is picked for it.
-use Rattle.std.proofs.Common.{◌≡◌, ◌≢◌, inl, inr, ℕ, zero, suc, ◌<◌, ◌+◌, ◌-◌, ◌*◌, ◌/◌, ◌==◌, List, [], ◌∷◌, ◌++◌, length, take, drop, map, filter, get_or, slice_index, slice_get, slice_range, unwrap_or, Option, Some, None, option_map, length-append, refl, sym, ◌∙◌, ap, subst, arith}
+use Rattle.std.proofs.Common.{◌≡◌, ◌≢◌, inl, inr, ℕ, zero, suc, ◌<◌, ◌+◌, ◌-◌, ◌*◌, ◌/◌, ◌==◌, List, [], ◌∷◌, ◌++◌, length, drop, map, filter, get_or, slice_index, slice_get, slice_range, unwrap_or, Option, None, option_map, length-append, refl, sym, ◌∙◌, ap, subst, arith}
 use Rattle.std.proofs.Math.Nat.{mul-le-mul_right, mul-div_cancel}
 use Rattle.std.proofs.lemmas.Bool.{cases_eq}
 use Rattle.std.proofs.lemmas.Bool.Decides.{nat_tests}
@@ -11,7 +11,7 @@ use Rattle.edge_disk.specs.declared.slot.Slot.{Slot}
 use Rattle.edge_base.specs.Sizes.{is_block_size}
 use Rattle.edge_disk.specs.CandidateLaws.{candidate_length}
 use Rattle.edge_disk.specs.declared.memory.MemoryDisk.{MemoryDisk}
-use Rattle.edge_disk.specs.Image.{image_in, IsPermitted}
+use Rattle.edge_disk.specs.Image.{image_in, IsPermitted, IsPlain}
 use Rattle.edge_disk.specs.Memory.{origin_of, candidates_of, may_hold_of, is_sure_of, picked_of}
 use Rattle.edge_disk.specs.Slots.{remembered}
 
@@ -28,9 +28,6 @@ at_place b slots i o e =
 behind_shown : (x : List ℕ) (b : ℕ) (slots : List Slot) (pick : ℕ) (o : Option Slot) → pick ≢ 0 → o ≡ slice_get (filter (λ (s : Slot). s.block == b) slots) (pick - 1) → unwrap_or (option_map bytes_of o) [] ≡ get_or (x ∷ remembered b slots) pick []
 behind_shown x b slots zero o more e = absurd (more refl)
 behind_shown x b slots (suc i) o more e = at_place b slots i o (e ∙ ap (slice_get (filter (λ (s : Slot). s.block == b) slots)) (omega arith))
-
-pub found : (x : List ℕ) (b : ℕ) (slots : List Slot) (pick : ℕ) (s : Slot) → pick ≢ 0 → Some s ≡ slice_get (filter (λ (t : Slot). t.block == b) slots) (pick - 1) → s.bytes.items ≡ get_or (x ∷ remembered b slots) pick []
-found x b slots pick s more e = behind_shown x b slots pick (Some s) more e
 
 pub past : (x : List ℕ) (b : ℕ) (slots : List Slot) (pick : ℕ) → pick ≢ 0 → None ≡ slice_get (filter (λ (t : Slot). t.block == b) slots) (pick - 1) → [] ≡ get_or (x ∷ remembered b slots) pick []
 past x b slots pick more e = behind_shown x b slots pick None more e
@@ -72,3 +69,7 @@ is_permitted d pick bytes whole picked there = record {
   whole = λ b in_range. ap length (picked b in_range) ∙ picked_is_whole d pick b in_range (there b in_range);
   only = λ b in_range sure. subst (may_hold_of d b) (sym (picked b in_range)) (picked_is_candidate d pick b (there b in_range));
 }
+
+pub is_plain : (d : MemoryDisk) (pick bytes : List ℕ) → ((b : ℕ) → b < length d.image.items → slice_range bytes (b * d.block_size) (b * d.block_size + d.block_size) ≡ picked_of d pick b)
+    → ((b : ℕ) → b < length d.image.items → slice_index pick b < length (candidates_of d b)) → IsPlain (origin_of d) (may_hold_of d) (image_in d.block_size bytes)
+is_plain d pick bytes picked there b low in_range = inl (subst (may_hold_of d b) (sym (picked b in_range)) (picked_is_candidate d pick b (there b in_range)))

@@ -163,7 +163,7 @@ impl Disk for MemoryDisk {
 
 impl MemoryDisk {
     ghost use Rattle.std.specs.Prelude.{◌/◌, ◌*◌, [], ◌∷◌, ℕ, slice_index, slice_index_or, slice_range, true, IfOk};
-    ghost use Rattle.edge_disk.specs.Image.{image_in, IsPermitted};
+    ghost use Rattle.edge_disk.specs.Image.{image_in, IsPermitted, IsPlain};
     ghost use Rattle.edge_disk.specs.Memory.{origin_of, shown_of, candidates_of, may_hold_of, is_sure_of, faults_of, fails_of, calls_of, room_of, used_of, picked_of};
 
     /// A disk of the whole blocks of an image, with one candidate each. The calls whose numbers are in
@@ -249,6 +249,8 @@ impl MemoryDisk {
         ensures picked { IfOk result (λ bytes. (b : ℕ) → b < (origin_of self.now).blocks →
             (image_in (origin_of self.now).block_size bytes.items).block b ≡ picked_of self.now pick.now b) }
         ensures permitted { IfOk result (λ bytes. IsPermitted (origin_of self.now) (may_hold_of self.now) (is_sure_of self.now)
+            (image_in (origin_of self.now).block_size bytes.items)) }
+        ensures plain { IfOk result (λ bytes. IsPlain (origin_of self.now) (may_hold_of self.now)
             (image_in (origin_of self.now).block_size bytes.items)) }
     {
         let mut bytes = Vec::new(alloc);

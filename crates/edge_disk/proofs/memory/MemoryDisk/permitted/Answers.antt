@@ -1,6 +1,6 @@
-use Rattle.std.proofs.Common.{rules, ◌≡◌, ◌<◌, ◌+◌, ◌*◌, ℕ, List, length, length-append, slice_range, sym, ◌∙◌, ap, subst, arith}
+use Rattle.std.proofs.Common.{◌≡◌, ◌<◌, ◌+◌, ◌*◌, ℕ, List, length, length-append, slice_range, sym, ◌∙◌, ap, subst, arith}
 use Rattle.edge_disk.specs.Memory.{picked_of}
-use Rattle.edge_disk.proofs.PickLemmas.{more_blocks, picked_is_whole, is_permitted}
+use Rattle.edge_disk.proofs.PickLemmas.{more_blocks, picked_is_whole, is_permitted, is_plain}
 use Rattle.edge_disk.proofs.memory.MemoryDisk.permitted.Goals as goal
 
 pub loop-b-preserved : goal.loop-b-preserved
@@ -26,3 +26,9 @@ returns-clause-permitted c =
     (c.loop-b.invariant.whole ∙ ap (λ (n : ℕ). n * disk.block_size) all)
     (λ b in_range. c.loop-b.invariant.picked b (subst (λ (n : ℕ). b < n) (sym all) in_range))
     c.requires.there
+
+pub returns-clause-plain : goal.returns-clause-plain
+returns-clause-plain c =
+    let disk = c.args.self.now in
+    let all : c.loop-b.b ≡ length disk.image.items = omega (arith, c.requires.one_each, c.loop-b-test.false, c.loop-b.auto.b-end) in
+    is_plain disk c.args.pick.now c.loop-b.bytes.items (λ b in_range. c.loop-b.invariant.picked b (subst (λ (n : ℕ). b < n) (sym all) in_range)) c.requires.there
