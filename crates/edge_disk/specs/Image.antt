@@ -1,5 +1,5 @@
 -- Images, and which of them a cut of the power may leave.
-use Rattle.std.specs.Prelude.{◌≡◌, ◌⊎◌, ◌<◌, ℕ, List, length}
+use Rattle.std.specs.Prelude.{◌≡◌, ◌⊎◌, ◌<◌, ◌+◌, ◌*◌, ◌/◌, ℕ, List, length, slice_range}
 use Rattle.edge_base.specs.Spelling.{SpellsNoNode}
 use Rattle.edge_disk.specs.Disk.{Origin}
 
@@ -12,6 +12,10 @@ pub record Image : Type 0 where
 -- the image that reads of a disk give
 abbrev pub shown_image : Origin → (ℕ → List ℕ) → Image
 shown_image origin shown = record { blocks = origin.blocks; block_size = origin.block_size; block = shown }
+
+-- blocks of n bytes that stand end to end, as an image
+abbrev pub image_in : ℕ → List ℕ → Image
+image_in n bytes = record { blocks = length bytes / n; block_size = n; block = λ b. slice_range bytes (b * n) (b * n + n) }
 
 -- An image is permitted if each block with one candidate holds it. A block with several may hold any bytes.
 pub record IsPermitted (origin : Origin) (may_hold : ℕ → List ℕ → Type 0) (is_sure : ℕ → Type 0) (image : Image) : Type 0 where

@@ -3,3 +3,4 @@ pub mod Disk
 pub mod Image
 pub mod Memory
 pub mod Slots
+pub mod Sure

@@ -1,5 +1,5 @@
 -- What a disk in memory means, and what its calls do beyond what those of every disk do.
-use Rattle.std.specs.Prelude.{◌≡◌, ◌≢◌, ◌<◌, ◌≤◌, ◌+◌, ◌-◌, ◌^◌, min, ℕ, List, [], ◌∷◌, ◌++◌, length, take, true, Contains, Result, OnOk, OnErr}
+use Rattle.std.specs.Prelude.{◌≡◌, ◌≢◌, ◌<◌, ◌≤◌, ◌+◌, ◌-◌, ◌^◌, min, ℕ, List, [], ◌∷◌, ◌++◌, length, take, slice_index, slice_index_or, true, Contains, Result, OnOk, OnErr}
 use Rattle.edge_disk.specs.Disk.{Origin}
 use Rattle.edge_disk.specs.Slots.{block_in, remembered}
 use Rattle.edge_disk.specs.declared.memory.MemoryDisk.{MemoryDisk}
@@ -38,6 +38,10 @@ extra_of d b = remembered b (take d.used d.slots.items)
 -- all candidates of a block, the shown bytes first
 abbrev pub candidates_of : MemoryDisk → ℕ → List (List ℕ)
 candidates_of d b = shown_of d b ∷ extra_of d b
+
+-- the candidate of a block whose number is picked for it
+abbrev pub picked_of : MemoryDisk → List ℕ → ℕ → List ℕ
+picked_of d pick b = slice_index_or (candidates_of d b) (slice_index pick b) []
 
 abbrev pub may_hold_of : MemoryDisk → ℕ → List ℕ → Type 0
 may_hold_of d b = Contains (candidates_of d b)

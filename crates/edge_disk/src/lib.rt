@@ -1,13 +1,15 @@
-//! The disk, and a disk in memory.
+//! The disk, and two disks in memory.
 #![tactic(auto)]
 
 mod disk;
 mod make;
 mod memory;
 mod slot;
+mod sure;
 
 pub use disk::{DeviceFault, Disk};
 pub use memory::MemoryDisk;
+pub use sure::SureDisk;
 
 #[cfg(test)]
 mod tests;

@@ -4,7 +4,7 @@ ghost use Rattle.edge_disk.specs.Slots.{AllBlocksHave, AllSlotsHave};
 
 use crate::disk::{DeviceFault, Disk};
 use crate::make::{empty_slots, split};
-use crate::slot::{Slot, remember, set_block};
+use crate::slot::{Slot, count_of, nth_of, remember, set_block};
 use std::alloc::{AllocError, Global};
 
 /// A disk in memory, which fails where it was told to, and where it has no room left.
@@ -162,8 +162,9 @@ impl Disk for MemoryDisk {
 }
 
 impl MemoryDisk {
-    ghost use Rattle.std.specs.Prelude.{◌/◌, ◌*◌, ◌∷◌, ℕ, slice_range, true, IfOk};
-    ghost use Rattle.edge_disk.specs.Memory.{origin_of, shown_of, is_sure_of, faults_of, fails_of, calls_of, room_of, used_of};
+    ghost use Rattle.std.specs.Prelude.{◌/◌, ◌*◌, [], ◌∷◌, ℕ, slice_index, slice_index_or, slice_range, true, IfOk};
+    ghost use Rattle.edge_disk.specs.Image.{image_in, IsPermitted, IsPlain};
+    ghost use Rattle.edge_disk.specs.Memory.{origin_of, shown_of, candidates_of, may_hold_of, is_sure_of, faults_of, fails_of, calls_of, room_of, used_of, picked_of};
 
     /// A disk of the whole blocks of an image, with one candidate each. The calls whose numbers are in
     /// `fails` will fail. Besides one candidate for each block there is room for `room` more.
@@ -206,5 +207,56 @@ impl MemoryDisk {
             calls: 0,
             faults: 0,
         })
+    }
+
+    /// How many calls of `read`, `write` and `flush` there have been. It stays at 2^64 - 1 once it is there.
+    pub fn calls(&self) -> u64
+        ensures { result ≡ calls_of self.now }
+    {
+        self.calls
+    }
+
+    /// The number of candidates of block `b`, 1 at least.
+    pub fn loose(&self, b: u32) -> u32
+        requires in_range { b < (origin_of self.now).blocks }
+        ensures { result ≡ length (candidates_of self.now b) }
+    {
+        1 + count_of(&self.slots[..self.used], b) as u32
+    }
+
+    // Candidate `pick` of block `b`: the shown bytes are candidate 0, and then come the further ones, the oldest first.
+    fn candidate(&self, b: u32, pick: u32) -> &[u8]
+        requires in_range { b < (origin_of self.now).blocks }
+        ensures { result.now ≡ slice_index_or (candidates_of self.now b) pick [] }
+    {
+        if pick == 0 {
+            return &self.image[b as usize];
+        }
+        match nth_of(&self.slots[..self.used], b, pick as usize - 1) {
+            Some(slot) => &slot.bytes,
+            None => &[],
+        }
+    }
+
+    /// The image in which block `b` holds the candidate whose number is `pick[b]`, below `loose(b)`.
+    ///
+    /// Candidate 0 is what reads give, and then come the further ones, the oldest first. The blocks stand
+    /// end to end.
+    pub fn permitted(&self, alloc: Global, pick: &[u32]) -> Result<Vec<u8>, AllocError>
+        requires one_each { length pick.now ≡ (origin_of self.now).blocks }
+        requires there { (b : ℕ) → b < (origin_of self.now).blocks → slice_index pick.now b < length (candidates_of self.now b) }
+        ensures length { IfOk result (λ bytes. length bytes.items ≡ (origin_of self.now).blocks * (origin_of self.now).block_size) }
+        ensures picked { IfOk result (λ bytes. (b : ℕ) → b < (origin_of self.now).blocks →
+            (image_in (origin_of self.now).block_size bytes.items).block b ≡ picked_of self.now pick.now b) }
+        ensures permitted { IfOk result (λ bytes. IsPermitted (origin_of self.now) (may_hold_of self.now) (is_sure_of self.now)
+            (image_in (origin_of self.now).block_size bytes.items)) }
+        ensures plain { IfOk result (λ bytes. IsPlain (origin_of self.now) (may_hold_of self.now)
+            (image_in (origin_of self.now).block_size bytes.items)) }
+    {
+        let mut bytes = Vec::new(alloc);
+        for b in 0..pick.len() {
+            bytes.extend_from_slice(self.candidate(b as u32, pick[b]))?;
+        }
+        Ok(bytes)
     }
 }

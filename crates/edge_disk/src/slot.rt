@@ -1,5 +1,5 @@
-ghost use Rattle.std.specs.Prelude.{◌≡◌, ◌≢◌, ◌<◌, ℕ, length};
-ghost use Rattle.edge_disk.specs.Slots.{block_in, AllBlocksHave, AllSlotsHave, Remembers};
+ghost use Rattle.std.specs.Prelude.{◌≡◌, ◌≢◌, ◌<◌, ◌≤◌, ◌==◌, ℕ, length, filter, slice_get, option_map};
+ghost use Rattle.edge_disk.specs.Slots.{block_in, remembered, AllBlocksHave, AllSlotsHave, Remembers};
 
 /// A candidate that was remembered for a block.
 #[derive(Drop)]
@@ -32,4 +32,19 @@ pub fn remember(slots: &mut Vec<Slot>, used: usize, block: u32, bytes: &[u8])
     let slot = &mut slots[used];
     slot.block = block;
     slot.bytes.copy_from_slice(bytes);
+}
+
+/// How many of these slots are the block's.
+pub fn count_of(slots: &[Slot], block: u32) -> usize
+    ensures count { result ≡ length (remembered block slots.now) }
+    ensures few { result ≤ length slots.now }
+{
+    slots.iter().filter(|slot| slot.block == block).count()
+}
+
+/// The slot at `index` among those of these that are the block's, the oldest first.
+pub fn nth_of(slots: &[Slot], block: u32, index: usize) -> Option<&Slot>
+    ensures { option_map (λ s. s.now) result ≡ slice_get (filter (λ s. s.block == block) slots.now) index }
+{
+    slots.iter().filter(|slot| slot.block == block).nth(index)
 }
