@@ -1,7 +1,9 @@
-//! Where bytes come from and go to, and a source and a sink in memory.
+//! Where bytes come from and go to, and a source and a sink in memory; a clock, and one in memory.
 #![tactic(auto)]
 
 mod calls;
+mod clock;
+mod memory_clock;
 mod memory_sink;
 mod memory_source;
 mod sink;
@@ -9,6 +11,8 @@ mod source;
 #[cfg(test)]
 mod tests;
 
+pub use clock::Clock;
+pub use memory_clock::MemoryClock;
 pub use memory_sink::MemorySink;
 pub use memory_source::MemorySource;
 pub use sink::{Sink, SinkFault};

@@ -9,6 +9,10 @@ fn write_once<S: Sink>(sink: &mut S, bytes: &[u8]) -> Result<usize, SinkFault> {
     sink.write(bytes)
 }
 
+fn moment_of<C: Clock>(clock: &mut C) -> u32 {
+    clock.now()
+}
+
 #[test]
 fn source_gives_pieces(rt: HostRuntime) -> Result<(), Fail> {
     let mut source = MemorySource::new(rt.alloc(), b"abcdefghijklmnop", &[1, 5])?;
@@ -56,6 +60,15 @@ fn sink_takes_pieces(rt: HostRuntime) -> Result<(), Fail> {
         );
     }
     assert_eq!(rt; sink.taken(), b"abcdef".as_slice());
+    Ok(())
+}
+
+#[test]
+fn clock_gives_moments(rt: HostRuntime) -> Result<(), Fail> {
+    let mut clock = MemoryClock::new(rt.alloc(), &[7, 4294967295, 0, 3])?;
+    for moment in [7, 4294967295, 0, 3, 3, 3] {
+        assert_eq!(rt; moment_of(&mut clock), moment);
+    }
     Ok(())
 }
 
