@@ -3,7 +3,11 @@
 
 mod calls;
 mod clock;
+mod folder;
+mod folder_item;
+mod kept;
 mod memory_clock;
+mod memory_folder;
 mod memory_sink;
 mod memory_source;
 mod sink;
@@ -12,7 +16,10 @@ mod source;
 mod tests;
 
 pub use clock::Clock;
+pub use folder::{Folder, FolderFault, Item, ItemKind};
+pub use folder_item::FolderItem;
 pub use memory_clock::MemoryClock;
+pub use memory_folder::MemoryFolder;
 pub use memory_sink::MemorySink;
 pub use memory_source::MemorySource;
 pub use sink::{Sink, SinkFault};
