@@ -37,9 +37,9 @@ pub trait Folder {
 
     ghost faults: { Self → ℕ };
 
-    /// Takes the first of the items left, writes its path to the front of `path`, and answers what it is.
-    /// The bytes left are then its own, none for a directory. Without an item left it answers None and
-    /// changes nothing. Where it fails, it takes nothing and changes only the count.
+    /// Takes the first of the items left, writes its path to the front of `path`, which has 4,096 bytes, and
+    /// answers what it is. The bytes left are then its own, none for a directory. Without an item left it
+    /// answers None and changes nothing. Where it fails, it takes nothing and changes only the count.
     fn next(&mut self, path: &mut [u8]) -> Result<Option<Item>, FolderFault>
         requires { length path.old ≡ 4096 }
         ensures tells { tells self.new ≡ tells self.old }

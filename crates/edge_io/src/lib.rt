@@ -1,4 +1,4 @@
-//! Where bytes come from and go to, and a source and a sink in memory; a clock, and one in memory.
+//! Where bytes, items of a folder and moments come from, and where bytes go to, with one of each in memory.
 #![tactic(auto)]
 
 mod calls;

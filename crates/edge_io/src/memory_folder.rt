@@ -79,16 +79,14 @@ impl Folder for MemoryFolder {
         if self.calls.next_fails(false) {
             return Err(FolderFault);
         }
-        let Some(
-            Kept {
-                path: name,
-                kind,
-                bytes,
-            },
-        ) = self.items.pop_front()
-        else {
+        let Some(kept) = self.items.pop_front() else {
             return Ok(None);
         };
+        let Kept {
+            path: name,
+            kind,
+            bytes,
+        } = kept;
         let path_len = name.len();
         path[..path_len].copy_from_slice(&name);
         self.bytes = bytes;
