@@ -1,3 +1,5 @@
+ghost use Rattle.std.specs.Prelude.{◌≡◌, length};
+
 use super::*;
 use std::test::Fail;
 
@@ -7,6 +9,35 @@ fn read_once<S: Source>(source: &mut S, out: &mut [u8]) -> Result<usize, SourceF
 
 fn write_once<S: Sink>(sink: &mut S, bytes: &[u8]) -> Result<usize, SinkFault> {
     sink.write(bytes)
+}
+
+fn moment_of<C: Clock>(clock: &mut C) -> u32 {
+    clock.now()
+}
+
+/// A call of a folder. That for bytes has room for two.
+#[derive(Clone, Copy, Debug)]
+enum Call {
+    Next,
+    Bytes,
+}
+
+// The kind of the item that the call gives, and how many bytes of its path, or of its bytes.
+fn ask<F: Folder>(
+    folder: &mut F,
+    call: Call,
+    room: &mut [u8],
+) -> Result<(Option<ItemKind>, usize), FolderFault>
+    requires { length room.old ≡ 4096 }
+{
+    if let Call::Bytes = call {
+        let count = folder.bytes(&mut room[..2])?;
+        return Ok((None, count));
+    }
+    let Some(item) = folder.next(room)? else {
+        return Ok((None, 0));
+    };
+    Ok((Some(item.kind), item.path_len))
 }
 
 #[test]
@@ -60,8 +91,69 @@ fn sink_takes_pieces(rt: HostRuntime) -> Result<(), Fail> {
 }
 
 #[test]
+fn folder_gives_items(rt: HostRuntime) -> Result<(), Fail> {
+    let (file, directory) = (ItemKind::File, ItemKind::Directory);
+    let items = [
+        FolderItem {
+            path: b"b",
+            kind: directory,
+            bytes: b"none",
+        },
+        FolderItem {
+            path: b"b/c",
+            kind: file,
+            bytes: b"xyz",
+        },
+        FolderItem {
+            path: b"a",
+            kind: file,
+            bytes: b"uvw",
+        },
+    ];
+    let mut folder = MemoryFolder::new(rt.alloc(), &items, &[1, 4, 7, 12])?;
+    let mut room = [0; 4096];
+    // The call, the kind of the item that it gives, and its path or the bytes, none where the call fails.
+    for (call, kind, wanted) in [
+        (Call::Bytes, None, Some("")),
+        (Call::Next, None, None),
+        (Call::Next, Some(directory), Some("b")),
+        (Call::Bytes, None, Some("")),
+        (Call::Next, None, None),
+        (Call::Next, Some(file), Some("b/c")),
+        (Call::Bytes, None, Some("xy")),
+        (Call::Bytes, None, None),
+        (Call::Bytes, None, Some("z")),
+        (Call::Bytes, None, Some("")),
+        (Call::Next, Some(file), Some("a")),
+        (Call::Bytes, None, Some("uv")),
+        (Call::Next, None, None),
+        (Call::Next, None, Some("")),
+        (Call::Bytes, None, Some("w")),
+    ] {
+        let answer = ask(&mut folder, call, &mut room);
+        let Some(text) = wanted else {
+            assert_eq!(rt; answer, Err(FolderFault), "{call:?}");
+            continue;
+        };
+        assert_eq!(rt; answer, Ok((kind, text.len())), "{call:?} at {text}");
+        assert!(rt; text.len() <= room.len());
+        assert_eq!(rt; &room[..text.len()], text.as_bytes(), "{call:?} at {text}");
+    }
+    Ok(())
+}
+
+#[test]
+fn clock_gives_moments(rt: HostRuntime) -> Result<(), Fail> {
+    let mut clock = MemoryClock::new(rt.alloc(), &[7, 4294967295, 0, 3])?;
+    for moment in [7, 4294967295, 0, 3, 3, 3] {
+        assert_eq!(rt; moment_of(&mut clock), moment);
+    }
+    Ok(())
+}
+
+#[test]
 fn faults_print_their_names(rt: HostRuntime) -> Result<(), Fail> {
-    let text = format!(in rt.alloc(); "{} {}", SourceFault, SinkFault)?;
-    assert_eq!(rt; text.as_str(), "SourceFault SinkFault");
+    let text = format!(in rt.alloc(); "{SourceFault} {SinkFault} {FolderFault}")?;
+    assert_eq!(rt; text.as_str(), "SourceFault SinkFault FolderFault");
     Ok(())
 }
