@@ -301,7 +301,8 @@ fn the_first_reason_is_told(rt: HostRuntime) -> Result<(), Fail> {
                 make(&rt, &mut image, *change);
             }
             expect_reason(&rt, alloc, &image, 4096, first)?;
-            // Two blocks are no image, whatever else holds.
+            // No block, or two, are no image, whatever else holds.
+            expect_reason(&rt, alloc, &image, 0, 1)?;
             expect_reason(&rt, alloc, &image, 1024, 1)?;
             expect_reason(&rt, alloc, &image, 1535, 1)?;
         }
