@@ -4,3 +4,11 @@ pub mod Places
 pub mod Word
 pub mod Bytes
 pub mod Spelling
+pub mod Refusals
+pub mod Positions
+pub mod Slots
+pub mod Nodes
+pub mod NodeRules
+pub mod Paths
+pub mod Events
+pub mod Descriptors

@@ -4,6 +4,7 @@
 #![tactic(auto)]
 
 mod damage;
+mod form;
 mod geometry;
 mod node;
 mod refusal;
@@ -11,6 +12,7 @@ mod refusal;
 mod tests;
 
 pub use damage::{Damage, DamageKind};
+pub use form::Form;
 pub use geometry::{BadGeometry, Geometry, Request};
 pub use node::{Head, Master, Metaroot, NodeFault, NodeType};
 pub use refusal::Refusal;

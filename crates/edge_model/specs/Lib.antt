@@ -1,0 +1,11 @@
+pub mod Asked
+pub mod Tree
+pub mod Walk
+pub mod State
+pub mod Named
+pub mod Open
+pub mod Files
+pub mod Names
+pub mod Step
+pub mod Run
+pub mod Rules
