@@ -1,1 +1,2 @@
 pub mod ReasonLaws
+pub mod ReadyLaws

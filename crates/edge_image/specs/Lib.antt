@@ -1,2 +1,4 @@
 pub mod Image
 pub mod Ready
+pub mod View
+pub mod Opens

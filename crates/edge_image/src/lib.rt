@@ -11,6 +11,9 @@ ghost use Rattle.edge_base.specs.Spelling.{master_in};
 ghost use Rattle.edge_disk.specs.Image.{Image};
 ghost use Rattle.edge_image.specs.Image.{Live, live_of, used_place, place_of, reason_of, head_of, root_number};
 ghost use Rattle.edge_image.specs.Ready.{IsReady, IsLive, IsMountable};
+ghost use Rattle.edge_base.specs.Nodes.{Node};
+ghost use Rattle.edge_model.specs.Tree.{Tree};
+ghost use Rattle.edge_image.specs.Opens.{OpensTo, head_of_node};
 
 /// The live metaroot is the valid one that no other beats, and there is no other such one.
 pub fn live_is_the_greater()
@@ -36,4 +39,9 @@ pub fn ready_with_one_head()
 pub fn ready_tells_the_head()
     ensures { (image : Image) (master : Master) (live : Live) (head : Head) → reason_of image ≡ None → master_in (image.block 0) ≡ Ok master → live_of master.geometry image ≡ Some live
         → IsReady image head ↔ (head_of master.geometry image (image.block live.place) root_number ≡ Ok head) }
+{}
+
+/// An image that opens to a tree is ready, with the head of the tree's root.
+pub fn sound_is_ready()
+    ensures { (image : Image) (t : Tree) (node : Node) → (opens : OpensTo image t) → t 2 ≡ Some node → IsReady image (head_of_node opens.master.geometry t 2 node) }
 {}

@@ -1,0 +1,60 @@
+-- When a view stands for a tree, and when an image opens to one.
+use Rattle.std.specs.Prelude.{◌≡◌, ◌≢◌, ◌↔◌, ◌<◌, ℕ, true, List, Some, None, Ok}
+use Rattle.edge_base.specs.declared.geometry.Request.{Request}
+use Rattle.edge_base.specs.declared.node.Head.{Head}
+use Rattle.edge_base.specs.declared.node.Master.{Master}
+use Rattle.edge_base.specs.Spelling.{master_in}
+use Rattle.edge_base.specs.Positions.{Position, has}
+use Rattle.edge_base.specs.Nodes.{Node, kind_of, size_of, parent_of}
+use Rattle.edge_disk.specs.Disk.{Origin}
+use Rattle.edge_disk.specs.Image.{Image, shown_image}
+use Rattle.edge_store.specs.View.{View, Inode, whole, broken, is_used}
+use Rattle.edge_store.specs.Placed.{block_at, HoldsNode}
+use Rattle.edge_model.specs.Tree.{Tree, links_of, tree_positions}
+use Rattle.edge_model.specs.Rules.{IsTree}
+use Rattle.edge_image.specs.Image.{Live, live_of, reason_of}
+use Rattle.edge_image.specs.View.{view_of}
+
+-- the head of a tree's node
+abbrev pub head_of_node : Request → Tree → ℕ → Node → Head
+head_of_node g t n node = record { size = size_of g node; kind = kind_of node; links = links_of g t n; parent = parent_of node }
+
+-- number n has an inode with this head
+pub record HasHead (v : View) (n : ℕ) (head : Head) : Type 0 where
+  pub entries : List ℕ
+  pub inode : v.inodes n ≡ Some (whole head entries)
+
+-- a block where the tree has a position
+pub record IsPlaced (g : Request) (v : View) (t : Tree) (b : ℕ) : Type 0 where
+  pub position : Position
+  pub in_tree : has (tree_positions g t) position ≡ true
+  pub block : block_at g v position ≡ b
+
+pub record StandsFor (g : Request) (v : View) (t : Tree) : Type 0 where
+  -- the numbers of the view are those of the tree
+  pub numbers : (n : ℕ) → (t n ≡ None) ↔ (v.inodes n ≡ None)
+  -- each inode has the head of the node
+  pub heads : (n : ℕ) (node : Node) → t n ≡ Some node → HasHead v n (head_of_node g t n node)
+  -- and its blocks are where the node needs them, and hold its bytes or its slots
+  pub nodes : (n : ℕ) (node : Node) → t n ≡ Some node → HoldsNode g v n node
+  -- no block is pointed to twice
+  pub once : (p q : Position) → has (tree_positions g t) p ≡ true → has (tree_positions g t) q ≡ true → block_at g v p ≡ block_at g v q → p ≡ q
+  -- each used block is pointed to
+  pub each : (b : ℕ) → is_used v b ≡ true → IsPlaced g v t b
+
+-- An image opens to a tree where no reason holds, each inode of its view is whole, and the view stands for the tree.
+pub record OpensTo (image : Image) (t : Tree) : Type 0 where
+  pub mounts : reason_of image ≡ None
+  pub master : Master
+  pub is_master : master_in (image.block 0) ≡ Ok master
+  pub live : Live
+  pub is_live : live_of master.geometry image ≡ Some live
+  pub unbroken : (n : ℕ) → (view_of master.geometry image live).inodes n ≢ Some broken
+  pub tree : IsTree master.geometry t
+  pub stands : StandsFor master.geometry (view_of master.geometry image live) t
+
+-- A disk is sound where each of its blocks has one candidate, it has had no fault, and what it shows opens to the tree.
+pub record IsSound (origin : Origin) (shown : ℕ → List ℕ) (is_sure : ℕ → Type 0) (faults : ℕ) (t : Tree) : Type 0 where
+  pub sure : (b : ℕ) → b < origin.blocks → is_sure b
+  pub no_fault : faults ≡ 0
+  pub opens : OpensTo (shown_image origin shown) t
