@@ -2,3 +2,4 @@ pub mod Image
 pub mod Ready
 pub mod View
 pub mod Opens
+pub mod Fresh

@@ -12,7 +12,8 @@ ghost use Rattle.edge_disk.specs.Image.{Image};
 ghost use Rattle.edge_image.specs.Image.{Live, live_of, used_place, place_of, reason_of, head_of, root_number};
 ghost use Rattle.edge_image.specs.Ready.{IsReady, IsLive, IsMountable};
 ghost use Rattle.edge_base.specs.Nodes.{Node};
-ghost use Rattle.edge_model.specs.Tree.{Tree};
+ghost use Rattle.edge_model.specs.Tree.{Tree, only_root};
+ghost use Rattle.edge_image.specs.Fresh.{fresh_image};
 ghost use Rattle.edge_image.specs.Opens.{OpensTo, head_of_node};
 
 /// The live metaroot is the valid one that no other beats, and there is no other such one.
@@ -44,4 +45,14 @@ pub fn ready_tells_the_head()
 /// An image that opens to a tree is ready, with the head of the tree's root.
 pub fn sound_is_ready()
     ensures { (image : Image) (t : Tree) (node : Node) → (opens : OpensTo image t) → t 2 ≡ Some node → IsReady image (head_of_node opens.master.geometry t 2 node) }
+{}
+
+/// An image opens to one tree alone.
+pub fn image_determines_tree()
+    ensures { (image : Image) (t u : Tree) → OpensTo image t → OpensTo image u → t ≡ u }
+{}
+
+/// A fresh image opens to the tree that has an empty root directory alone.
+pub fn fresh_image_opens()
+    ensures { OpensTo fresh_image only_root }
 {}
