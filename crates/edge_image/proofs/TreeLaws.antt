@@ -1,23 +1,21 @@
 -- A view stands for one tree alone.
-use Rattle.std.proofs.Common.{◌≡◌, ◌≢◌, cond, ◌↔◌, ℕ, zero, suc, ◌+◌, ◌-◌, ◌*◌, ◌/◌, ◌%◌, ◌<◌, ◌≤◌, ◌==◌, ◌||◌, ◌&&◌, inl, inr, Bool, true, false, List, [], ◌∷◌, ◌++◌, length, get_or, Option, Some, None, refl, sym, ap, ◌∙◌, subst, arith}
+use Rattle.std.proofs.Common.{◌≡◌, ◌≢◌, cond, ◌↔◌, ℕ, zero, suc, ◌+◌, ◌-◌, ◌*◌, ◌/◌, ◌<◌, ◌≤◌, ◌==◌, ◌||◌, ◌&&◌, inl, inr, Bool, true, false, List, [], ◌∷◌, length, get_or, Option, Some, None, refl, sym, ap, ◌∙◌, subst, arith}
 use Rattle.std.specs.Prelude.{nat_lt}
-use Rattle.std.specs.List.{list_any, flat_map, range_with_len}
+use Rattle.std.specs.List.{list_any, range_with_len}
 use Rattle.std.proofs.Math.Nat.{lt_of_mul-lt-mul_left, eq_of_mul-eq-mul_left}
-use Rattle.std.proofs.lemmas.Bool.{cases_lt, cases_Bool, cases_eq, eq-eqb, eqb-true, ne_eqb, or_from, or_left, or_right, or_cases}
-use Rattle.std.proofs.lemmas.List.{ext_get_or, get_or_past}
+use Rattle.std.proofs.lemmas.Bool.{cases_eq, eq-eqb, ne_eqb, or_from, or_left, or_right}
+use Rattle.std.proofs.lemmas.List.{ext_get_or}
 use Rattle.std.proofs.lemmas.List.Folds.{list_any-append}
-use Rattle.edge_base.specs.declared.form.Form.{Form}
-use Rattle.edge_base.specs.declared.form.Form.TheVariants.{Plain}
 use Rattle.edge_base.specs.declared.geometry.Request.{Request}
 use Rattle.edge_base.specs.declared.node.Head.{Head}
 use Rattle.edge_base.specs.declared.node.NodeType.TheVariants.{File, Directory}
-use Rattle.edge_base.specs.Places.{pointers_of, max_blocks_of, max_size_of}
-use Rattle.edge_base.specs.Positions.{Position, same_position, data_at, indirect_at, double_at, above_indirect, above_data, chain, positions_of, has}
-use Rattle.edge_base.specs.Slots.{Entry, Slots, pieces, slots_in_block, slot_blocks}
+use Rattle.edge_base.specs.Places.{pointers_of, max_blocks_of}
+use Rattle.edge_base.specs.Positions.{same_position, data_at, indirect_at, double_at, above_indirect, above_data, positions_of, has}
+use Rattle.edge_base.specs.Slots.{Slots, pieces, slots_in_block, slot_blocks}
 use Rattle.edge_base.specs.Nodes.{Node, file, directory, marked_from, indices_of, size_of, kind_of, parent_of, block_of}
 use Rattle.edge_base.specs.NodeRules.{IsNode, IsFile, IsDirectory}
-use Rattle.edge_store.specs.View.{View, Inode, whole, broken, Content, bytes, content_at}
-use Rattle.edge_store.specs.Placed.{block_at, data_block, HoldsNode}
+use Rattle.edge_store.specs.View.{View, whole, bytes}
+use Rattle.edge_store.specs.Placed.{data_block, HoldsNode}
 use Rattle.edge_model.specs.Tree.{Tree}
 use Rattle.edge_model.specs.Rules.{IsTree}
 use Rattle.edge_disk.specs.Image.{Image}

@@ -8,7 +8,7 @@ use Rattle.edge_base.specs.Positions.{Position, has}
 use Rattle.edge_base.specs.Nodes.{Node, kind_of, size_of, parent_of}
 use Rattle.edge_disk.specs.Disk.{Origin}
 use Rattle.edge_disk.specs.Image.{Image, shown_image}
-use Rattle.edge_store.specs.View.{View, Inode, whole, broken, is_used}
+use Rattle.edge_store.specs.View.{View, whole, broken, is_used}
 use Rattle.edge_store.specs.Placed.{block_at, HoldsNode}
 use Rattle.edge_model.specs.Tree.{Tree, links_of, tree_positions}
 use Rattle.edge_model.specs.Rules.{IsTree}

@@ -1,20 +1,20 @@
-//! What an image says: its live metaroot, its used blocks, the reasons why it is not mounted, and
-//! whether it is ready. The definitions stand in `specs/`; the functions here are laws over them,
-//! without effects.
+//! What an image says: its live metaroot, its used blocks, the reasons why it is not mounted, whether
+//! it is ready, its view, and the tree that it opens to. The definitions stand in `specs/`; the
+//! functions here are laws over them, without effects.
 #![tactic(auto)]
 
 ghost use Rattle.std.specs.Prelude.{◌≡◌, ◌↔◌, ℕ, List, None, Some, Ok};
 ghost use Rattle.edge_base.specs.declared.geometry.Request.{Request};
 ghost use Rattle.edge_base.specs.declared.node.Head.{Head};
 ghost use Rattle.edge_base.specs.declared.node.Master.{Master};
+ghost use Rattle.edge_base.specs.Nodes.{Node};
 ghost use Rattle.edge_base.specs.Spelling.{master_in};
 ghost use Rattle.edge_disk.specs.Image.{Image};
+ghost use Rattle.edge_model.specs.Tree.{Tree, only_root};
 ghost use Rattle.edge_image.specs.Image.{Live, live_of, used_place, place_of, reason_of, head_of, root_number};
 ghost use Rattle.edge_image.specs.Ready.{IsReady, IsLive, IsMountable};
-ghost use Rattle.edge_base.specs.Nodes.{Node};
-ghost use Rattle.edge_model.specs.Tree.{Tree, only_root};
-ghost use Rattle.edge_image.specs.Fresh.{fresh_image};
 ghost use Rattle.edge_image.specs.Opens.{OpensTo, head_of_node};
+ghost use Rattle.edge_image.specs.Fresh.{fresh_image};
 
 /// The live metaroot is the valid one that no other beats, and there is no other such one.
 pub fn live_is_the_greater()
