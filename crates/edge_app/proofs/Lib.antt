@@ -4,3 +4,5 @@ pub mod ProgressLaws
 pub mod CountLaws
 pub mod MountLaws
 pub mod TopLaws
+pub mod RunLaws
+pub mod SoundLaws

@@ -5,3 +5,4 @@ pub mod SlotLaws
 pub mod BlockLaws
 pub mod TreeLaws
 pub mod FreshLaws
+pub mod AlikeLaws

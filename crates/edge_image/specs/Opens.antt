@@ -53,6 +53,12 @@ pub record OpensTo (image : Image) (t : Tree) : Type 0 where
   pub tree : IsTree master.geometry t
   pub stands : StandsFor master.geometry (view_of master.geometry image live) t
 
+-- Images of one size with the same blocks. What stands behind the last block means nothing.
+pub record IsAlike (image other : Image) : Type 0 where
+  pub blocks : other.blocks ≡ image.blocks
+  pub block_size : other.block_size ≡ image.block_size
+  pub same : (b : ℕ) → b < image.blocks → other.block b ≡ image.block b
+
 -- A disk is sound where each of its blocks has one candidate, it has had no fault, and what it shows opens to the tree.
 pub record IsSound (origin : Origin) (shown : ℕ → List ℕ) (is_sure : ℕ → Type 0) (faults : ℕ) (t : Tree) : Type 0 where
   pub sure : (b : ℕ) → b < origin.blocks → is_sure b

@@ -13,7 +13,7 @@ ghost use Rattle.edge_disk.specs.Image.{Image};
 ghost use Rattle.edge_model.specs.Tree.{Tree, only_root};
 ghost use Rattle.edge_image.specs.Image.{Live, live_of, used_place, place_of, reason_of, head_of, root_number};
 ghost use Rattle.edge_image.specs.Ready.{IsReady, IsLive, IsMountable};
-ghost use Rattle.edge_image.specs.Opens.{OpensTo, head_of_node};
+ghost use Rattle.edge_image.specs.Opens.{OpensTo, IsAlike, head_of_node};
 ghost use Rattle.edge_image.specs.Fresh.{fresh_image};
 
 /// The live metaroot is the valid one that no other beats, and there is no other such one.
@@ -50,6 +50,11 @@ pub fn sound_is_ready()
 /// An image opens to one tree alone.
 pub fn image_determines_tree()
     ensures { (image : Image) (t u : Tree) → OpensTo image t → OpensTo image u → t ≡ u }
+{}
+
+/// An image that has the same blocks opens to the same tree.
+pub fn alike_images_open_alike()
+    ensures { (image other : Image) (t : Tree) → IsAlike image other → OpensTo image t → OpensTo other t }
 {}
 
 /// A fresh image opens to the tree that has an empty root directory alone.
