@@ -10,9 +10,11 @@ mod node;
 mod refusal;
 #[cfg(test)]
 mod tests;
+mod way;
 
 pub use damage::{Damage, DamageKind};
 pub use form::Form;
 pub use geometry::{BadGeometry, Geometry, Request};
 pub use node::{Head, Master, Metaroot, NodeFault, NodeType};
 pub use refusal::Refusal;
+pub use way::Way;
