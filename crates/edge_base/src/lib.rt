@@ -6,6 +6,7 @@
 mod damage;
 mod form;
 mod geometry;
+mod laws;
 mod node;
 mod refusal;
 #[cfg(test)]
@@ -15,6 +16,7 @@ mod way;
 pub use damage::{Damage, DamageKind};
 pub use form::Form;
 pub use geometry::{BadGeometry, Geometry, Request};
+pub use laws::reads_the_spelled_pointer_node;
 pub use node::{Head, Master, Metaroot, NodeFault, NodeType};
 pub use refusal::Refusal;
 pub use way::Way;
