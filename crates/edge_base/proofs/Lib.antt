@@ -1,1 +1,4 @@
 pub mod SpellingLaws
+pub mod SetLaws
+pub mod PositionLaws
+pub mod CountLaws

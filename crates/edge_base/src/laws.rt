@@ -1,12 +1,41 @@
 //! Laws over the definitions of `specs/`: functions without effects.
 
-ghost use Rattle.std.specs.Prelude.{◌≡◌, ◌↔◌, ℕ, Bool, List, length, Ok};
+ghost use Rattle.std.specs.Prelude.{◌≡◌, ◌↔◌, ◌≤◌, ℕ, ◌+◌, not, Bool, true, List, ◌++◌, length, filter, count_by, Ok};
+ghost use Rattle.std.specs.List.{range_with_len};
 ghost use Rattle.edge_base.specs.declared.geometry.Request.{Request};
 ghost use Rattle.edge_base.specs.Bytes.{number_at};
+ghost use Rattle.edge_base.specs.Counting.{LeadTo};
+ghost use Rattle.edge_base.specs.Positions.{Position, same_position, has, count_of};
 ghost use Rattle.edge_base.specs.Spelling.{PointerNode, SpellsPointer, pointer_in};
 
 /// Reading answers a pointer node exactly where the block spells it.
 pub fn reads_the_spelled_pointer_node()
     ensures { (g : Request) (double : Bool) (b : List ℕ) (node : PointerNode) → length b ≡ g.block_size
         → (pointer_in g double b ≡ Ok node) ↔ SpellsPointer g double (number_at 8 8 b) node.owner node.entries b }
+{}
+
+/// The test of positions is equality.
+pub fn same_position_is_equality()
+    ensures { (p q : Position) → (same_position p q ≡ true) ↔ (p ≡ q) }
+{}
+
+/// Two lists have together what the second has, and what the first has that is new.
+pub fn position_counts()
+    ensures { (ps qs : List Position) → count_of (ps ++ qs) ≡ count_of (filter (λ p. not (has qs p)) ps) + count_of qs }
+{}
+
+/// Lists with the same positions have as many.
+pub fn same_members_count_the_same()
+    ensures { (ps qs : List Position) → ((p : Position) → has ps p ≡ has qs p) → count_of ps ≡ count_of qs }
+{}
+
+/// A list whose positions another list has too has no more.
+pub fn fewer_members_count_no_more()
+    ensures { (ps qs : List Position) → ((p : Position) → has ps p ≡ true → has qs p ≡ true) → count_of ps ≤ count_of qs }
+{}
+
+/// Numbers that positions lead to are as many as the positions, and with the rest they are the whole range.
+pub fn numbers_count_as_positions()
+    ensures passing { (f : Position → ℕ) (ps : List Position) (test : ℕ → Bool) (a n : ℕ) → LeadTo f ps test a n → count_by test (range_with_len a n) ≡ count_of ps }
+    ensures rest { (f : Position → ℕ) (ps : List Position) (test : ℕ → Bool) (a n : ℕ) → LeadTo f ps test a n → count_by (λ b. not (test b)) (range_with_len a n) + count_of ps ≡ n }
 {}
