@@ -2,3 +2,4 @@ pub mod SpellingLaws
 pub mod SetLaws
 pub mod PositionLaws
 pub mod CountLaws
+pub mod ChainLaws

@@ -1,11 +1,12 @@
 //! Laws over the definitions of `specs/`: functions without effects.
 
-ghost use Rattle.std.specs.Prelude.{◌≡◌, ◌↔◌, ◌≤◌, ℕ, ◌+◌, not, Bool, true, List, ◌++◌, length, filter, count_by, Ok};
-ghost use Rattle.std.specs.List.{range_with_len};
+ghost use Rattle.std.specs.Prelude.{◌≡◌, ◌↔◌, ◌≤◌, ℕ, ◌+◌, ◌==◌, ◌&&◌, not, Bool, true, List, ◌++◌, length, filter, count_by, Ok};
+ghost use Rattle.std.specs.List.{list_any, range_with_len};
 ghost use Rattle.edge_base.specs.declared.geometry.Request.{Request};
 ghost use Rattle.edge_base.specs.Bytes.{number_at};
+ghost use Rattle.edge_base.specs.Chains.{is_on_chain};
 ghost use Rattle.edge_base.specs.Counting.{LeadTo};
-ghost use Rattle.edge_base.specs.Positions.{Position, same_position, has, count_of};
+ghost use Rattle.edge_base.specs.Positions.{Position, same_position, has, count_of, positions_of};
 ghost use Rattle.edge_base.specs.Spelling.{PointerNode, SpellsPointer, pointer_in};
 
 /// Reading answers a pointer node exactly where the block spells it.
@@ -38,4 +39,9 @@ pub fn fewer_members_count_no_more()
 pub fn numbers_count_as_positions()
     ensures passing { (f : Position → ℕ) (ps : List Position) (test : ℕ → Bool) (a n : ℕ) → LeadTo f ps test a n → count_by test (range_with_len a n) ≡ count_of ps }
     ensures rest { (f : Position → ℕ) (ps : List Position) (test : ℕ → Bool) (a n : ℕ) → LeadTo f ps test a n → count_by (λ b. not (test b)) (range_with_len a n) + count_of ps ≡ n }
+{}
+
+/// A node has the positions that are on the chains of its data blocks, and no others.
+pub fn positions_are_on_chains()
+    ensures { (g : Request) (x : ℕ) (indices : List ℕ) (p : Position) → has (positions_of g x indices) p ≡ ((p.number == x) && list_any (is_on_chain g p.form p.index) indices) }
 {}
