@@ -1,3 +1,4 @@
 pub mod View
 pub mod Placed
 pub mod Fresh
+pub mod Frames

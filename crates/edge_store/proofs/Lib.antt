@@ -1,0 +1,4 @@
+pub mod DigitLaws
+pub mod WayLaws
+pub mod FrameLaws
+pub mod ShapeLaws
