@@ -1,5 +1,5 @@
 -- A count over a range by what leads to its numbers.
-use Rattle.std.proofs.Common.{◌≡◌, ℕ, zero, suc, ◌+◌, inl, inr, ◌&&◌, ◌||◌, not, Bool, true, false, cond, eqb, leb, ltb, List, [], ◌∷◌, map, refl, sym, ap, ◌∙◌, arith, subst}
+use Rattle.std.proofs.Common.{length, ◌≡◌, ℕ, zero, suc, ◌+◌, inl, inr, ◌&&◌, ◌||◌, not, Bool, true, false, cond, eqb, leb, ltb, List, [], ◌∷◌, map, refl, sym, ap, ◌∙◌, arith, subst}
 use Rattle.std.specs.List.{filter, IsDistinct, AllByRecursion, range_with_len, count_by}
 use Rattle.std.specs.Set.{is_member}
 use Rattle.std.specs.Cmp.{nat_eq_equiv, both_ways}
@@ -50,6 +50,22 @@ IsDistinct-filter eq test (x ∷ xs) d = by (test x) (IsDistinct-filter eq test 
     by : (b : Bool) → IsDistinct eq (filter test xs) → IsDistinct eq (cond b (x ∷ filter test xs) (filter test xs))
     by true rest = (AllByRecursion-filter (λ y. eq x y ≡ false) test xs d.0, rest)
     by false rest = rest
+
+-- two tests that no element passes both of, and what passes neither
+length-filter_apart : {X : Type 0} (one two : X → Bool) → ((x : X) → one x ≡ true → two x ≡ false) → (xs : List X)
+    → length (filter (λ x. not (one x) && not (two x)) xs) + length (filter one xs) + length (filter two xs) ≡ length xs
+length-filter_apart one two apart [] = refl
+length-filter_apart {X} one two apart (x ∷ xs) = by (one x) (two x) (apart x) (length-filter_apart one two apart xs)
+  where
+    neither : List X
+    neither = filter (λ y. not (one y) && not (two y)) xs
+
+    by : (a b : Bool) → (a ≡ true → b ≡ false) → length neither + length (filter one xs) + length (filter two xs) ≡ length xs
+        → length (cond (not a && not b) (x ∷ neither) neither) + length (cond a (x ∷ filter one xs) (filter one xs)) + length (cond b (x ∷ filter two xs) (filter two xs)) ≡ suc (length xs)
+    by true true h rest = absurd (let e = h refl in cc)
+    by true false h rest = omega arith
+    by false true h rest = omega arith
+    by false false h rest = omega arith
 
 -- ---- the numbers that positions lead to
 
@@ -106,3 +122,17 @@ module _ {f : Position → ℕ} {ps : List Position} {test : ℕ → Bool} {a n 
       let all = length-range_with_len a n in
       let here = count_by-LeadTo in
       omega arith
+
+-- ---- positions of two kinds
+
+pub count_by-LeadTo-neither : {f h : Position → ℕ} {ps qs : List Position} {one two : ℕ → Bool} {a n : ℕ} → LeadTo f ps one a n → LeadTo h qs two a n → ((b : ℕ) → one b ≡ true → two b ≡ false)
+    → count_by (λ b. not (one b) && not (two b)) (range_with_len a n) + count_of ps + count_of qs ≡ n
+count_by-LeadTo-neither {f} {h} {ps} {qs} {one} {two} {a} {n} first second apart =
+    let all = length-filter_apart one two apart (range_with_len a n) in
+    let long = length-range_with_len a n in
+    let neither = length-filter (λ b. not (one b) && not (two b)) (range_with_len a n) in
+    let ones = length-filter one (range_with_len a n) in
+    let twos = length-filter two (range_with_len a n) in
+    let firsts = count_by-LeadTo first in
+    let seconds = count_by-LeadTo second in
+    omega arith

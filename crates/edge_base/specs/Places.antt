@@ -57,7 +57,7 @@ way_of g i =
     else if nat_lt single (g.indirect * pointers_of g) then Single (g.direct + single / pointers_of g) (single % pointers_of g)
     else Double (g.direct + g.indirect + double / (pointers_of g * pointers_of g)) (double % (pointers_of g * pointers_of g) / pointers_of g) (double % pointers_of g)
 
--- A way that no node is too short for.
+-- The entry and the places of a way lie within their nodes.
 abbrev pub IsWithinNodes : Request → Way → Type 0
 IsWithinNodes g (Direct entry) = entry < entries_of g
 IsWithinNodes g (Single entry place) = (entry < entries_of g) × (place < pointers_of g)

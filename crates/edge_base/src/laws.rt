@@ -1,6 +1,6 @@
 //! Laws over the definitions of `specs/`: functions without effects.
 
-ghost use Rattle.std.specs.Prelude.{◌≡◌, ◌↔◌, ◌≤◌, ℕ, ◌+◌, ◌==◌, ◌&&◌, not, Bool, true, List, ◌++◌, length, filter, count_by, Ok};
+ghost use Rattle.std.specs.Prelude.{◌≡◌, ◌↔◌, ◌≤◌, ℕ, ◌+◌, ◌==◌, ◌&&◌, not, Bool, true, false, List, ◌++◌, length, filter, count_by, Ok};
 ghost use Rattle.std.specs.List.{list_any, range_with_len};
 ghost use Rattle.edge_base.specs.declared.geometry.Request.{Request};
 ghost use Rattle.edge_base.specs.Bytes.{number_at};
@@ -35,10 +35,13 @@ pub fn fewer_members_count_no_more()
     ensures { (ps qs : List Position) → ((p : Position) → has ps p ≡ true → has qs p ≡ true) → count_of ps ≤ count_of qs }
 {}
 
-/// Numbers that positions lead to are as many as the positions, and with the rest they are the whole range.
+/// Numbers that positions lead to are as many as the positions. With the rest they are the whole
+/// range, also where some are led to in one way and others in another.
 pub fn numbers_count_as_positions()
     ensures passing { (f : Position → ℕ) (ps : List Position) (test : ℕ → Bool) (a n : ℕ) → LeadTo f ps test a n → count_by test (range_with_len a n) ≡ count_of ps }
     ensures rest { (f : Position → ℕ) (ps : List Position) (test : ℕ → Bool) (a n : ℕ) → LeadTo f ps test a n → count_by (λ b. not (test b)) (range_with_len a n) + count_of ps ≡ n }
+    ensures two_ways { (f h : Position → ℕ) (ps qs : List Position) (one two : ℕ → Bool) (a n : ℕ) → LeadTo f ps one a n → LeadTo h qs two a n → ((b : ℕ) → one b ≡ true → two b ≡ false)
+        → count_by (λ b. not (one b) && not (two b)) (range_with_len a n) + count_of ps + count_of qs ≡ n }
 {}
 
 /// A node has the positions that are on the chains of its data blocks, and no others.
