@@ -2,3 +2,4 @@ pub mod DigitLaws
 pub mod WayLaws
 pub mod FrameLaws
 pub mod ShapeLaws
+pub mod CountLaws

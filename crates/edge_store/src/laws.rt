@@ -1,11 +1,12 @@
 //! Laws over the definitions of `specs/`: functions without effects.
 
-ghost use Rattle.std.specs.Prelude.{◌≡◌, ◌≢◌, ◌<◌, ℕ, List, map, Option, None};
+ghost use Rattle.std.specs.Prelude.{◌≡◌, ◌≢◌, ◌<◌, ℕ, ◌+◌, List, map, Option, None};
 ghost use Rattle.edge_base.specs.declared.geometry.Request.{Request};
-ghost use Rattle.edge_base.specs.Places.{max_blocks_of, way_of};
-ghost use Rattle.edge_base.specs.Positions.{Position, above_data, positions_of_form};
-ghost use Rattle.edge_store.specs.View.{View, Block, Inode, entries_of_inode, with_block, with_inode};
+ghost use Rattle.edge_base.specs.Places.{allocable_of, max_blocks_of, way_of};
+ghost use Rattle.edge_base.specs.Positions.{Position, count_of, above_data, positions_of_form};
+ghost use Rattle.edge_store.specs.View.{View, Block, Inode, entries_of_inode, with_block, with_inode, is_used, is_new, free_now, free_after};
 ghost use Rattle.edge_store.specs.Placed.{block_at, data_block, follow, nodes_on, HasPlaces, IsOnce};
+ghost use Rattle.edge_store.specs.Counted.{Occupy};
 ghost use Rattle.edge_store.specs.Frames.{KeepsChain, KeepsPointers, IsNoNodeOf};
 
 /// A data block is where its way leads, and the pointer nodes above it are those on the way.
@@ -34,4 +35,12 @@ pub fn changes_elsewhere_keep_pointers()
 pub fn data_and_free_blocks_are_no_nodes()
     ensures data { (g : Request) (v : View) (n i : ℕ) (indices : List ℕ) → HasPlaces g v n indices → IsOnce g v n indices → i < max_blocks_of g → data_block g v n i ≢ 0 → IsNoNodeOf g v n (data_block g v n i) }
     ensures free { (g : Request) (v : View) (n b : ℕ) (indices : List ℕ) → HasPlaces g v n indices → b ≢ 0 → v.blocks b ≡ None → IsNoNodeOf g v n b }
+{}
+
+/// The free blocks now, the positions of the last point and those written since are together all
+/// allocable blocks; so are the blocks free after the next point and the positions then.
+pub fn free_blocks_and_positions()
+    ensures now { (g : Request) (committed working : View) (ps dirty : List Position) → Occupy g committed ps (is_used committed) → Occupy g working dirty (is_new committed working)
+        → free_now g committed working + count_of ps + count_of dirty ≡ allocable_of g }
+    ensures after { (g : Request) (working : View) (ps : List Position) → Occupy g working ps (is_used working) → free_after g working + count_of ps ≡ allocable_of g }
 {}

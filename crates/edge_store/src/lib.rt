@@ -7,5 +7,5 @@ mod laws;
 pub use edge_base::Form;
 pub use laws::{
     a_kept_chain_keeps_its_block, blocks_lie_on_their_ways, changes_elsewhere_keep_pointers,
-    data_and_free_blocks_are_no_nodes, kept_pointers_keep_all_blocks,
+    data_and_free_blocks_are_no_nodes, free_blocks_and_positions, kept_pointers_keep_all_blocks,
 };
