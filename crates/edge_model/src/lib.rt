@@ -3,5 +3,7 @@
 #![tactic(auto)]
 
 mod command;
+mod rows;
 
 pub use command::{Answer, Command, OpenFlags, Room, Status};
+pub use rows::{rows_of_descriptors, rows_of_files, rows_of_names, rows_of_points, rows_of_space};
