@@ -25,4 +25,3 @@ opened_and_emptied_passes = record { answers = refl; points = refl }
 pub directories_are_read_passes : Passes row.directories_are_read
 unfolding run_of step judged outcome_of tree_positions plan_stat plan_fstat room_of plan_set_mask plan_open plan_close plan_seek plan_fsync plan_open_dir plan_read_dir plan_rewind plan_read plan_write plan_truncate plan_make_dir plan_link plan_unlink plan_remove_dir plan_rename
 directories_are_read_passes = record { answers = refl; points = refl }
-

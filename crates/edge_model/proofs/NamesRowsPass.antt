@@ -7,7 +7,7 @@ use Rattle.edge_model.specs.Step.{step, plan_stat, plan_fstat, room_of, plan_set
 use Rattle.edge_model.specs.Open.{plan_open, plan_close, plan_seek, plan_fsync, plan_open_dir, plan_read_dir, plan_rewind}
 use Rattle.edge_model.specs.Files.{plan_read, plan_write, plan_truncate}
 use Rattle.edge_model.specs.Names.{plan_make_dir, plan_link, plan_unlink, plan_remove_dir, plan_rename}
-use Rattle.edge_model.specs.Rows.{Passes}
+use Rattle.edge_model.specs.Rows.{Passes, HasParent}
 use Rattle.edge_model.specs.NamesRows as row
 
 pub inodes_run_out_passes : Passes row.inodes_run_out
@@ -58,3 +58,6 @@ pub greatest_directory_passes : Passes row.greatest_directory
 unfolding run_of step judged outcome_of tree_positions plan_stat plan_fstat room_of plan_set_mask plan_open plan_close plan_seek plan_fsync plan_open_dir plan_read_dir plan_rewind plan_read plan_write plan_truncate plan_make_dir plan_link plan_unlink plan_remove_dir plan_rename
 greatest_directory_passes = record { answers = refl; points = refl }
 
+pub new_parent_holds : HasParent row.moved_directory 3 4
+unfolding run_of step judged outcome_of tree_positions plan_stat plan_fstat room_of plan_set_mask plan_open plan_close plan_seek plan_fsync plan_open_dir plan_read_dir plan_rewind plan_read plan_write plan_truncate plan_make_dir plan_link plan_unlink plan_remove_dir plan_rename
+new_parent_holds = refl

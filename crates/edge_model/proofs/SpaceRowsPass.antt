@@ -45,4 +45,3 @@ dirty_blocks_are_free_passes = record { answers = refl; points = refl }
 pub rmdir_without_room_passes : Passes row.rmdir_without_room
 unfolding run_of step judged outcome_of tree_positions plan_stat plan_fstat room_of plan_set_mask plan_open plan_close plan_seek plan_fsync plan_open_dir plan_read_dir plan_rewind plan_read plan_write plan_truncate plan_make_dir plan_link plan_unlink plan_remove_dir plan_rename
 rmdir_without_room_passes = record { answers = refl; points = refl }
-

@@ -15,3 +15,4 @@ pub mod FilesRows
 pub mod SpaceRows
 pub mod NamesRows
 pub mod DescriptorsRows
+pub mod Asking

@@ -1,14 +1,14 @@
 -- Worked scripts of a fresh volume: what they need to be told.
-use Rattle.std.specs.Prelude.{◌≡◌, ℕ, ◌+◌, ◌/◌, ◌%◌, true, false, List, [], ◌∷◌, length, map, Option, Some, None, Result, Ok, Err}
+use Rattle.std.specs.Prelude.{◌≡◌, ℕ, ◌+◌, ◌/◌, ◌%◌, true, false, List, [], ◌∷◌, length, map, Option, Some, None, Ok, Err}
 use Rattle.std.specs.List.{range_with_len}
 use Rattle.edge_base.specs.declared.geometry.Request.{Request}
 use Rattle.edge_base.specs.declared.node.NodeType.{NodeType}
 use Rattle.edge_base.specs.declared.refusal.Refusal.{Refusal}
 use Rattle.edge_model.specs.declared.command.OpenFlags.{OpenFlags}
 use Rattle.edge_model.specs.Asked.{Asked, Reply, status, room}
-use Rattle.edge_base.specs.Slots.{Entry, Slots}
-use Rattle.edge_base.specs.Nodes.{file, directory}
-use Rattle.edge_model.specs.Tree.{Tree, only_root, with_node}
+use Rattle.edge_base.specs.Slots.{Entry}
+use Rattle.edge_base.specs.Nodes.{file, directory, parent_of}
+use Rattle.edge_model.specs.Tree.{Tree, only_root, with_node, node_at}
 use Rattle.edge_model.specs.Run.{Answered, run_of, closed}
 
 -- a line and what it is answered; a line that is no command has None, and is answered None
@@ -27,6 +27,10 @@ pub record Row : Type 0 where
 pub record Passes (row : Row) : Type 0 where
   pub answers : (run_of row.request row.tree (map (λ e. e.line) row.exchanges)).answers ≡ map (λ e. e.answer) row.exchanges
   pub points : length (closed (run_of row.request row.tree (map (λ e. e.line) row.exchanges))).trees ≡ row.points + 1
+
+-- after the script, node n has this parent
+abbrev pub HasParent : Row → ℕ → ℕ → Type 0
+HasParent row n parent = parent_of (node_at (run_of row.request row.tree (map (λ e. e.line) row.exchanges)).state.tree n) ≡ parent
 
 -- ---- short words
 
@@ -121,4 +125,3 @@ ra = record { read = true; write = false; create = false; exclusive = false; tru
 
 abbrev pub none_at_all : OpenFlags
 none_at_all = record { read = false; write = false; create = false; exclusive = false; truncate = false; append = false }
-
