@@ -58,6 +58,10 @@ pub greatest_directory_passes : Passes row.greatest_directory
 unfolding run_of step judged outcome_of tree_positions plan_stat plan_fstat room_of plan_set_mask plan_open plan_close plan_seek plan_fsync plan_open_dir plan_read_dir plan_rewind plan_read plan_write plan_truncate plan_make_dir plan_link plan_unlink plan_remove_dir plan_rename
 greatest_directory_passes = record { answers = refl; points = refl }
 
+pub most_links_passes : Passes row.most_links
+unfolding run_of step judged outcome_of tree_positions plan_stat plan_fstat room_of plan_set_mask plan_open plan_close plan_seek plan_fsync plan_open_dir plan_read_dir plan_rewind plan_read plan_write plan_truncate plan_make_dir plan_link plan_unlink plan_remove_dir plan_rename
+most_links_passes = record { answers = refl; points = refl }
+
 pub new_parent_holds : HasParent row.moved_directory 3 4
 unfolding run_of step judged outcome_of tree_positions plan_stat plan_fstat room_of plan_set_mask plan_open plan_close plan_seek plan_fsync plan_open_dir plan_read_dir plan_rewind plan_read plan_write plan_truncate plan_make_dir plan_link plan_unlink plan_remove_dir plan_rename
 new_parent_holds = refl

@@ -1,11 +1,11 @@
 -- Worked scripts: names.
 use Rattle.std.specs.Prelude.{[], ◌∷◌, codes}
 use Rattle.edge_base.specs.declared.node.NodeType.TheVariants.{File, Directory}
-use Rattle.edge_base.specs.declared.refusal.Refusal.TheVariants.{NoEntry, BadDescriptor, Busy, Exists, NotDir, IsDir, Invalid, NoInodes, TooBig, NameTooLong, NotEmpty}
+use Rattle.edge_base.specs.declared.refusal.Refusal.TheVariants.{NoEntry, BadDescriptor, Busy, Exists, NotDir, IsDir, Invalid, NoInodes, TooBig, TooManyLinks, NameTooLong, NotEmpty}
 use Rattle.edge_model.specs.Asked as ask
 use Rattle.edge_model.specs.Asked.{done, number, bytes, end, entry}
 use Rattle.edge_model.specs.Tree.{only_root}
-use Rattle.edge_model.specs.Rows.{Row, says, told, no, stated, left, small, long_names, crowded, wc}
+use Rattle.edge_model.specs.Rows.{Row, says, told, no, stated, left, small, long_names, crowded, many_names, wc}
 
 -- numbers are given out from the least on
 abbrev pub inodes_run_out : Row
@@ -311,6 +311,18 @@ greatest_directory = record {
       says (ask.unlink (codes "/ah")) (told done) ∷
       says (ask.rename (codes "/op") (codes "/x")) (told done) ∷
       says (ask.stat (codes "/x")) (told (stated 3 File 0 239)) ∷
+      [];
+  points = 1;
+}
+
+-- a file has at most 65,535 names
+abbrev pub most_links : Row
+most_links = record {
+  request = small;
+  tree = many_names;
+  exchanges =
+      says (ask.link (codes "/a") (codes "/b")) (no Exists) ∷
+      says (ask.link (codes "/a") (codes "/x")) (no TooManyLinks) ∷
       [];
   points = 1;
 }

@@ -1,5 +1,5 @@
 -- Worked scripts of a fresh volume: what they need to be told.
-use Rattle.std.specs.Prelude.{◌≡◌, ℕ, ◌+◌, ◌/◌, ◌%◌, true, false, List, [], ◌∷◌, length, map, Option, Some, None, Ok, Err}
+use Rattle.std.specs.Prelude.{◌≡◌, ℕ, ◌+◌, ◌/◌, ◌%◌, true, false, List, [], ◌∷◌, length, map, replicate, codes, Option, Some, None, Ok, Err}
 use Rattle.std.specs.List.{range_with_len}
 use Rattle.edge_base.specs.declared.geometry.Request.{Request}
 use Rattle.edge_base.specs.declared.node.NodeType.{NodeType}
@@ -82,6 +82,10 @@ lettered i = Some (record { name = (97 + i / 16) ∷ (97 + i % 16) ∷ []; numbe
 -- 240 names in the root
 abbrev pub crowded : Tree
 crowded = with_node (with_node only_root 3 (Some (file [] []))) 2 (Some (directory (map lettered (range_with_len 0 240)) 0))
+
+-- 65,535 slots of the root name one file
+abbrev pub many_names : Tree
+many_names = with_node (with_node only_root 3 (Some (file [] []))) 2 (Some (directory (Some (record { name = codes "a"; number = 3 }) ∷ replicate 65534 (Some (record { name = codes "b"; number = 3 }))) 0))
 
 -- flags by their letters
 abbrev pub r : OpenFlags

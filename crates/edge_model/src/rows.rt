@@ -3,7 +3,7 @@
 ghost use Rattle.edge_model.specs.PointsRows.{empty_script, fresh_volume, bad_lines, events, no_event, masks};
 ghost use Rattle.edge_model.specs.FilesRows.{sparse_file, cut_and_grown, cut_at_a_block, append, positions, greatest_file, file_refusals};
 ghost use Rattle.edge_model.specs.SpaceRows.{full_volume, one_byte_too_many, unlink_on_a_full_volume, point_on_a_full_volume, three_blocks, four_blocks, growth_without_a_block, dirty_blocks_are_free, rmdir_without_room};
-ghost use Rattle.edge_model.specs.NamesRows.{inodes_run_out, paths, long_paths, renames, moved_directory, rename_in_one_directory, rename_over, unlink_while_open, slots, removed_directories, links, greatest_directory};
+ghost use Rattle.edge_model.specs.NamesRows.{inodes_run_out, paths, long_paths, renames, moved_directory, rename_in_one_directory, rename_over, unlink_while_open, slots, removed_directories, links, greatest_directory, most_links};
 ghost use Rattle.edge_model.specs.DescriptorsRows.{sixteen_descriptors, flags, opened_and_emptied, directories_are_read};
 ghost use Rattle.edge_model.specs.Rows.{Passes, HasParent};
 
@@ -55,6 +55,7 @@ pub fn rows_of_names()
     ensures removed_directories { Passes removed_directories }
     ensures links { Passes links }
     ensures greatest_directory { Passes greatest_directory }
+    ensures most_links { Passes most_links }
     ensures new_parent { HasParent moved_directory 3 4 }
 {}
 

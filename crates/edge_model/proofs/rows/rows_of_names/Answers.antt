@@ -1,4 +1,4 @@
-use Rattle.edge_model.proofs.NamesRowsPass.{inodes_run_out_passes, paths_passes, long_paths_passes, renames_passes, moved_directory_passes, rename_in_one_directory_passes, rename_over_passes, unlink_while_open_passes, slots_passes, removed_directories_passes, links_passes, greatest_directory_passes, new_parent_holds}
+use Rattle.edge_model.proofs.NamesRowsPass.{inodes_run_out_passes, paths_passes, long_paths_passes, renames_passes, moved_directory_passes, rename_in_one_directory_passes, rename_over_passes, unlink_while_open_passes, slots_passes, removed_directories_passes, links_passes, greatest_directory_passes, most_links_passes, new_parent_holds}
 use Rattle.edge_model.proofs.rows.rows_of_names.Goals as goal
 
 pub returns-clause-inodes_run_out : goal.returns-clause-inodes_run_out
@@ -36,6 +36,9 @@ returns-clause-links c = links_passes
 
 pub returns-clause-greatest_directory : goal.returns-clause-greatest_directory
 returns-clause-greatest_directory c = greatest_directory_passes
+
+pub returns-clause-most_links : goal.returns-clause-most_links
+returns-clause-most_links c = most_links_passes
 
 pub returns-clause-new_parent : goal.returns-clause-new_parent
 returns-clause-new_parent c = new_parent_holds
