@@ -16,6 +16,10 @@ use Rattle.edge_app.specs.Session.{Ran}
 abbrev pub is_status : ℕ → Bool
 is_status n = (n == 0) || (n == 2) || (n == 3) || (n == 4) || (n == 5) || (n == 6) || (n == 7) || (n == 8) || (n == 11)
 
+-- and those of a run over an image
+abbrev pub is_run_status : ℕ → Bool
+is_run_status n = (n == 0) || (n == 3) || (n == 4) || (n == 5) || (n == 6) || (n == 7) || (n == 8) || (n == 11)
+
 -- the status and the damage of a session, by how it ended
 abbrev pub EndsBy : How → Report → Type 0
 EndsBy End r = (r.status ≡ 0) × (r.damage ≡ None)

@@ -5,6 +5,7 @@ mod lines;
 mod mount;
 mod reply;
 mod report;
+mod running;
 mod session;
 #[cfg(test)]
 mod tests;

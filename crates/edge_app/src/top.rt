@@ -9,51 +9,15 @@ ghost use Rattle.edge_image.specs.Opens.{OpensTo, IsSound};
 ghost use Rattle.edge_app.specs.Mount.{IsUntouched};
 ghost use Rattle.edge_app.specs.Report.{is_status, is_session, has_no_session, MeetsDamage, Served, Unserved};
 ghost use Rattle.edge_app.specs.Script.{HoldsLines, lines_of, replies_to, IsInLimits};
-ghost use Rattle.edge_app.specs.Stream.{pending, used_of, ended_of};
 ghost use Rattle.edge_app.specs.Trees.{run_text};
 ghost use Rattle.edge_app.specs.Words.{IsRun};
 
-use crate::lines::LineReader;
-use crate::report::{DEVICE, MEMORY, Outcome, Report, WORDS};
-use crate::session::{Limit, serve};
-use crate::volume::{MountFault, Volume};
+use crate::report::{Outcome, Report, WORDS};
+use crate::running::run_image;
 use crate::words::is_run;
 use edge_disk::Disk;
 use edge_io::{Sink, Source};
-use std::alloc::{AllocError, Global};
-
-/// The bytes of a block.
-const BLOCK_SIZE: u32 = 512;
-
-/// The limits of a session.
-const LIMITS: Limit = Limit {
-    lines: 4_294_967_295,
-    bytes: 1_099_511_627_776,
-};
-
-// All the memory of a run.
-#[derive(Drop)]
-struct Buffers {
-    lines: LineReader,
-    root: Vec<u8>,
-    block: Vec<u8>,
-}
-
-impl Buffers {
-    fn new(alloc: Global) -> Result<Buffers, AllocError>
-        ensures unused { IfOk result (λ b. used_of b.lines ≡ 0) }
-        ensures nothing_pending { IfOk result (λ b. pending b.lines ≡ []) }
-        ensures not_ended { IfOk result (λ b. ended_of b.lines ≡ false) }
-        ensures root { IfOk result (λ b. vec_len b.root ≡ 512) }
-        ensures block { IfOk result (λ b. vec_len b.block ≡ 512) }
-    {
-        Ok(Buffers {
-            lines: LineReader::new(alloc)?,
-            root: vec![in alloc; 0u8; BLOCK_SIZE as usize]?,
-            block: vec![in alloc; 0u8; BLOCK_SIZE as usize]?,
-        })
-    }
-}
+use std::alloc::Global;
 
 /// Runs the command that the words say: `run IMAGE` answers the script of `src`, line by line, into `out`,
 /// over the disk, which has blocks of 512 bytes. It takes all its memory before the first device call.
@@ -124,29 +88,5 @@ pub fn edge<S: Source, K: Sink, D: Disk>(
             disk,
         };
     }
-    let Ok(mut buffers) = Buffers::new(alloc) else {
-        return Outcome {
-            report: Report::unserved(MEMORY),
-            disk,
-        };
-    };
-    match Volume::mount(disk, buffers.root, buffers.block) {
-        Err((disk, fault)) => match fault {
-            MountFault::Device => Outcome {
-                report: Report::unserved(DEVICE),
-                disk,
-            },
-            MountFault::NotVolume(reason) => Outcome {
-                report: Report::not_a_volume(reason),
-                disk,
-            },
-        },
-        Ok(mut volume) => {
-            let ended = serve(src, out, &mut volume, LIMITS, &mut buffers.lines);
-            Outcome {
-                report: Report::served(ended),
-                disk: volume.into_disk(),
-            }
-        }
-    }
+    run_image(alloc, src, out, disk)
 }

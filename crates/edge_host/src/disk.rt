@@ -25,14 +25,28 @@ pub struct HostDisk {
     ghost no_file: { ForNone file (blocks ≡ 0) },
 }
 
-// Opens a file for reading and writing, and measures it. A device has its length at its end alone.
-fn open_file(files: &impl Files<File = File>, path: &str) -> io::Result<(File, u64)> {
-    let mut file = OpenOptions::new().read(true).write(true).open(files, path)?;
+// Opens a file for reading and writing, and measures it. One that is made is made where it is missing,
+// and lengthened to `least` bytes. A device has its length at its end alone.
+fn open_file(
+    files: &impl Files<File = File>,
+    path: &str,
+    made: bool,
+    least: u64,
+) -> io::Result<(File, u64)> {
+    let mut file = OpenOptions::new()
+        .read(true)
+        .write(true)
+        .create(made)
+        .open(files, path)?;
     // What is meant for a standard stream that is closed must not land in the file.
     if file.as_raw_fd() <= 2 {
         file = file.try_clone()?;
     }
     let length = file.seek(SeekFrom::End(0))?;
+    if length < least {
+        file.set_len(least)?;
+        return Ok((file, least));
+    }
     Ok((file, length))
 }
 
@@ -44,15 +58,29 @@ impl HostDisk {
     /// opened for both reading and writing, as one that may only be read, or that has no length, counts
     /// as no file. Over no file the disk has 0 blocks.
     ///
+    /// With `make_blocks` the file is made where it is missing, and lengthened with zeros to so many
+    /// blocks where it has fewer. A file that cannot be made or lengthened counts as no file.
+    ///
     /// A rest of the file that is no whole block, or stands behind block 2^32 - 2, is not part of the
     /// disk. What others wrote to the file is synced first. Where that fails, each flush fails.
-    pub fn open(files: &impl Files<File = File>, path: Option<&str>, block_size: u32) -> HostDisk
+    pub fn open(
+        files: &impl Files<File = File>,
+        path: Option<&str>,
+        block_size: u32,
+        make_blocks: Option<u32>,
+    ) -> HostDisk
         requires { IsTrue (is_block_size block_size) }
         ensures block_size { (origin_of result).block_size ≡ block_size }
         ensures no_file { IsNone path.entry → (origin_of result).blocks ≡ 0 }
         ensures faults { faults_of result ≡ 0 }
     {
-        let opened = path.and_then(|path| open_file(files, path).ok());
+        let least = u64::from(make_blocks.unwrap_or(0)) * u64::from(block_size);
+        let opened = path.and_then(|path| open_file(
+            files,
+            path,
+            make_blocks.is_some(),
+            least,
+        ).ok());
         let (file, length) = match opened {
             Some((file, length)) => (Some(file), length),
             None => (None, 0),

@@ -40,8 +40,8 @@ fn write_block<D: Disk>(
 fn disk_is_the_whole_blocks_of_a_file(rt: HostRuntime) -> Result<(), Fail> {
     let path = "edge_host_test_disk";
     fs::write(&rt, path, vec![in rt.alloc(); 7u8; 1124]?.as_slice())?;
-    let mut disk = HostDisk::open(&rt, Some(path), 512);
-    let mut again = HostDisk::open(&rt, Some(path), 512);
+    let mut disk = HostDisk::open(&rt, Some(path), 512, None);
+    let mut again = HostDisk::open(&rt, Some(path), 512, None);
     assert_eq!(rt; disk.blocks(), 2);
     assert_eq!(rt; write_block(&mut disk, 1, &[1; 512]), Some(Ok(())));
     assert_eq!(rt; disk.flush(), Ok(()));
@@ -55,7 +55,31 @@ fn disk_is_the_whole_blocks_of_a_file(rt: HostRuntime) -> Result<(), Fail> {
     // The file ends within block 1.
     fs::write(&rt, path, vec![in rt.alloc(); 9u8; 600]?.as_slice())?;
     assert_eq!(rt; read_block(&mut again, 1, &mut out), Some(Err(DeviceFault)));
-    assert_eq!(rt; HostDisk::open(&rt, Some(path), 512).blocks(), 1);
+    assert_eq!(rt; HostDisk::open(&rt, Some(path), 512, None).blocks(), 1);
+    fs::remove_file(&rt, path)?;
+    Ok(())
+}
+
+#[test]
+fn disk_is_made_or_lengthened(rt: HostRuntime) -> Result<(), Fail> {
+    let path = "edge_host_test_made";
+    assert_eq!(rt; HostDisk::open(&rt, Some(path), 512, None).blocks(), 0);
+    assert_eq!(rt; HostDisk::open(&rt, Some(path), 512, Some(2)).blocks(), 2);
+    fs::write(&rt, path, vec![in rt.alloc(); 7u8; 700]?.as_slice())?;
+    let mut disk = HostDisk::open(&rt, Some(path), 512, Some(3));
+    assert_eq!(rt; disk.blocks(), 3);
+    let mut out = [1; 512];
+    assert_eq!(rt; read_block(&mut disk, 0, &mut out), Some(Ok(())));
+    assert!(rt; out == [7; 512]);
+    assert_eq!(rt; read_block(&mut disk, 2, &mut out), Some(Ok(())));
+    assert!(rt; out == [0; 512]);
+
+    // A longer file keeps its length.
+    assert_eq!(rt; HostDisk::open(&rt, Some(path), 512, Some(2)).blocks(), 3);
+    assert_eq!(rt;
+        HostDisk::open(&rt, Some("no_such_folder/disk"), 512, Some(2)).blocks(),
+        0
+    );
     fs::remove_file(&rt, path)?;
     Ok(())
 }
@@ -68,7 +92,7 @@ fn disk_over_no_file_has_no_blocks(rt: HostRuntime) {
         (Some("no_such_folder/disk"), Ok(())),
         (Some("/dev/null"), Err(DeviceFault)),
     ] {
-        let mut disk = HostDisk::open(&rt, path, 4096);
+        let mut disk = HostDisk::open(&rt, path, 4096, None);
         assert_eq!(rt; disk.blocks(), 0, "over {path:?}");
         for _ in 0..2 {
             assert_eq!(rt; disk.flush(), flushed, "over {path:?}");

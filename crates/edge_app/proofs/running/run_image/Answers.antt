@@ -12,7 +12,7 @@ use Rattle.edge_app.specs.Turn.{SourceCount, SinkCount, RootCount}
 use Rattle.edge_app.proofs.RunLaws.{text_of_run}
 use Rattle.edge_app.proofs.SoundLaws.{still_opens}
 use Rattle.edge_app.proofs.TopLaws.{is_front, is_whole, is_complete, same_image, ended_by}
-use Rattle.edge_app.proofs.top.edge.Goals as goal
+use Rattle.edge_app.proofs.running.run_image.Goals as goal
 
 pub returns-clause-prefix : goal.returns-clause-prefix
 returns-clause-prefix g c = λ shows tells told head ready.
@@ -35,7 +35,7 @@ returns-clause-whole g c = λ done shows tells told head ready.
     (c.serve-ended.ensures.ran (subst (λ (o : Origin). IsTrue o.shows) (sym untouched.origin) shows) tells told)
 
 pub returns-clause-complete : goal.returns-clause-complete
-returns-clause-complete g c = λ shows tells told head ready run within no_source no_sink no_device.
+returns-clause-complete g c = λ shows tells told head ready within no_source no_sink no_device.
     let untouched = c.in-Ok-mount.ensures.untouched in
     let volume = c.in-Ok-mount.volume in
     let how = c.serve-ended.result.how in
@@ -50,9 +50,6 @@ returns-clause-complete g c = λ shows tells told head ready run within no_sourc
     (subst (λ h. RootCount (Some h) (g.D.Disk.faults volume.disk) (g.D.Disk.faults c.serve-ended.new.root.disk)) e c.serve-ended.ensures.device))))
     c.serve-ended.ensures.limit
     (c.serve-ended.ensures.ran (subst (λ (o : Origin). IsTrue o.shows) (sym untouched.origin) shows) tells told)
-
-pub returns-then-not-is_run-clause-opens : goal.returns-then-not-is_run-clause-opens
-returns-then-not-is_run-clause-opens g c = λ t sound image permitted plain. still_opens _ _ _ _ _ _ _ _ _ t (g.met.D.Disk.sure_is_shown c.args.disk) untouched sound image permitted
 
 pub returns-in_default-clause-opens : goal.returns-in_default-clause-opens
 returns-in_default-clause-opens g c = λ t sound image permitted plain. still_opens _ _ _ _ _ _ _ _ _ t (g.met.D.Disk.sure_is_shown c.args.disk) untouched sound image permitted
