@@ -9,3 +9,4 @@ pub mod Names
 pub mod Step
 pub mod Run
 pub mod Rules
+pub mod Laws

@@ -1,7 +1,9 @@
 //! Commands and what they mean: a plain tree of files, and a step for each command. `specs/` has the
-//! definitions; `docs/DEFINITIONS.md` reads them in order.
+//! definitions; `docs/DEFINITIONS.md` reads them in order. `laws` has what holds of every step.
 #![tactic(auto)]
 
 mod command;
+mod laws;
 
 pub use command::{Answer, Command, OpenFlags, Room, Status};
+pub use laws::{few_points, refused_keeps};
