@@ -6,4 +6,7 @@ mod command;
 mod laws;
 
 pub use command::{Answer, Command, OpenFlags, Room, Status};
-pub use laws::{few_points, refused_keeps};
+pub use laws::{
+    dirty_has_ancestors, dirty_within, few_points, last_is_committed, refused_keeps, run_grows,
+    step_reads, step_tells,
+};
