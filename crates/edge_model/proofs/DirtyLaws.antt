@@ -47,10 +47,10 @@ is_lifted s e p w clean = among_right e.removes (filter (λ q. not (has s.dirty 
 
 -- ---- dirty within the tree
 
-point_within : (g : Request) (s : State) → IsDirtyWithin g (point_taken s)
+pub point_within : (g : Request) (s : State) → IsDirtyWithin g (point_taken s)
 point_within g s p h = absurd (false≢true h)
 
-edited_within : (g : Request) (s : State) (edit : Option Edit) → IsDirtyWithin g s → IsDirtyWithin g (edited g s edit)
+pub edited_within : (g : Request) (s : State) (edit : Option Edit) → IsDirtyWithin g s → IsDirtyWithin g (edited g s edit)
 edited_within g s None within = within
 edited_within g s (Some e) within = λ p h. after_is_there g s e p (among (dirty_of g s e) p h)
 
@@ -61,7 +61,7 @@ step_within g s c h = each_state g s (plan g s c) (IsDirtyWithin g) (λ z k. poi
 
 -- ---- the ancestors of dirty positions
 
-point_upwards : (g : Request) (s : State) → IsDirtyUpwards g (point_taken s)
+pub point_upwards : (g : Request) (s : State) → IsDirtyUpwards g (point_taken s)
 point_upwards g s p q h up = absurd (false≢true h)
 
 up_from : (g : Request) (s : State) (e : Edit) → IsDirtyUpwards g s → (p q : Position) → IsAmong (ancestors g p) q → Why g s e p → Why g s e q
@@ -95,7 +95,7 @@ abbrev pub IsCompletePlan : Request → Tree → Option Edit → Type 0
 IsCompletePlan g t None = Unit {0}
 IsCompletePlan g t (Some e) = IsComplete g t e
 
-point_clean : (g : Request) (s : State) → IsCleanCommitted g (point_taken s)
+pub point_clean : (g : Request) (s : State) → IsCleanCommitted g (point_taken s)
 point_clean g s p there clean = there
 
 -- a position of the new tree was one of the old one, or is dirty
@@ -120,7 +120,7 @@ old_or_dirty g s e within complete p h =
         (λ clean. clean)
         (cases_Bool (has s.dirty (data_at on.number on.index)))
 
-edited_clean : (g : Request) (s : State) (edit : Option Edit) → IsCompletePlan g s.tree edit → IsDirtyWithin g s → IsCleanCommitted g s → IsCleanCommitted g (edited g s edit)
+pub edited_clean : (g : Request) (s : State) (edit : Option Edit) → IsCompletePlan g s.tree edit → IsDirtyWithin g s → IsCleanCommitted g s → IsCleanCommitted g (edited g s edit)
 edited_clean g s None complete within committed = committed
 edited_clean g s (Some e) complete within committed = λ p there clean. ⊎_elim
     (λ old. ⊎_elim

@@ -3,6 +3,9 @@ pub mod Ways
 pub mod Outcomes
 pub mod Plans
 pub mod StepLaws
+pub mod SlotLaws
 pub mod DirtyLaws
+pub mod EditLaws
 pub mod RunLaws
 pub mod ReadLaws
+pub mod CompleteLaws

@@ -17,11 +17,11 @@ use Rattle.edge_model.specs.Files.{plan_read, read_plan}
 use Rattle.edge_model.specs.Run.{Run, opening, next_line, run_of}
 use Rattle.edge_model.specs.Laws.{reads_only, tells_only, line_tells_only, TakesNone, TakesOne}
 use Rattle.edge_model.proofs.Outcomes.{each_outcome}
-use Rattle.edge_model.proofs.Plans.{OnPlan, on_each, on_ok}
+use Rattle.edge_model.proofs.Plans.{Gives, gives_each, gives_ok}
 
 -- ---- plans
 
-abbrev HasNoEdit : Plan → Type 0
+abbrev pub HasNoEdit : Plan → Type 0
 HasNoEdit p = p.edit ≡ None
 
 read_none : (s : State) (h : ℕ) (d : Descriptor) (content piece : List ℕ) → HasNoEdit (read_plan s h d content piece)
@@ -32,14 +32,14 @@ read_dir_none : (s : State) (h : ℕ) (d : Descriptor) (filled : Option Filled) 
 read_dir_none s h d None = refl
 read_dir_none s h d (Some filled) = refl
 
-each : {A : Type 0} (r : Result A Refusal) (f : A → Result Plan Refusal) → ((x : A) → OnPlan HasNoEdit (f x)) → OnPlan HasNoEdit (r >>= f)
-each r f h = on_each HasNoEdit r f h
+each : {A : Type 0} (r : Result A Refusal) (f : A → Result Plan Refusal) → ((x : A) → Gives HasNoEdit (f x)) → Gives HasNoEdit (r >>= f)
+each r f h = gives_each HasNoEdit r f h
 
-none : (p : Plan) → HasNoEdit p → OnPlan HasNoEdit (Ok p)
-none p h = on_ok HasNoEdit p h
+none : (p : Plan) → HasNoEdit p → Gives HasNoEdit (Ok p)
+none p h = gives_ok HasNoEdit p h
 
 -- a command that only reads has no edit
-no_edit : (g : Request) (s : State) (c : Asked) → reads_only c ≡ true → OnPlan HasNoEdit (plan g s c)
+pub no_edit : (g : Request) (s : State) (c : Asked) → reads_only c ≡ true → Gives HasNoEdit (plan g s c)
 unfolding plan_close plan_read plan_seek plan_fsync plan_open_dir plan_read_dir plan_rewind plan_stat plan_fstat plan_set_mask
 no_edit g s (close h) e = each _ _ (λ d. none _ refl)
 no_edit g s (read h count) e = each (file_at s h) _ (λ d. each (refuse_if (not d.read) refusal.BadDescriptor) _ (λ _. none _ (read_none s h d _ _)))
@@ -99,13 +99,13 @@ step_reads g s c reads =
 abbrev Tells : State → Plan → Type 0
 Tells s p = (reply : Reply) × (p ≡ keeps s reply)
 
-told : (s : State) (reply : Reply) → OnPlan (Tells s) (Ok (keeps s reply))
-told s reply = on_ok (Tells s) (keeps s reply) (reply, refl)
+told : (s : State) (reply : Reply) → Gives (Tells s) (Ok (keeps s reply))
+told s reply = gives_ok (Tells s) (keeps s reply) (reply, refl)
 
-tells : (g : Request) (s : State) (c : Asked) → tells_only c ≡ true → OnPlan (Tells s) (plan g s c)
+tells : (g : Request) (s : State) (c : Asked) → tells_only c ≡ true → Gives (Tells s) (plan g s c)
 unfolding plan_stat plan_fstat
-tells g s (stat path) e = on_each (Tells s) (spot_of g s.tree path) _ (λ spot. on_each (Tells s) (found_number (at_spot s.tree spot)) _ (λ n. told s _))
-tells g s (fstat h) e = on_each (Tells s) _ _ (λ d. told s _)
+tells g s (stat path) e = gives_each (Tells s) (spot_of g s.tree path) _ (λ spot. gives_each (Tells s) (found_number (at_spot s.tree spot)) _ (λ n. told s _))
+tells g s (fstat h) e = gives_each (Tells s) _ _ (λ d. told s _)
 tells g s space e = told s _
 tells g s mask e = told s _
 tells g s (close h) e = absurd (false≢true e)

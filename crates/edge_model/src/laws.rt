@@ -4,7 +4,7 @@ ghost use Rattle.edge_base.specs.declared.geometry.Request.{Request};
 ghost use Rattle.edge_base.specs.declared.refusal.Refusal.{Refusal};
 ghost use Rattle.edge_base.specs.declared.refusal.Refusal.TheVariants.{NoSpace};
 ghost use Rattle.edge_model.specs.Asked.{Asked};
-ghost use Rattle.edge_model.specs.Laws.{IsDirtyWithin, IsDirtyUpwards, TakesNone, TakesOne, last_or, reads_only, tells_only, line_tells_only};
+ghost use Rattle.edge_model.specs.Laws.{IsDirtyWithin, IsDirtyUpwards, IsCleanCommitted, IsDirtySound, TakesNone, TakesOne, last_or, reads_only, tells_only, line_tells_only};
 ghost use Rattle.edge_model.specs.Run.{run_of, next_line, closed};
 ghost use Rattle.edge_model.specs.State.{State, first_state, point_taken, gains_by_point};
 ghost use Rattle.edge_model.specs.Step.{step};
@@ -54,4 +54,17 @@ pub fn step_reads()
 pub fn step_tells()
     ensures step { (g : Request) (s : State) (c : Asked) → tells_only c ≡ true → ((step g s c).state ≡ s) × ((step g s c).points ≡ []) }
     ensures run { (g : Request) (t : Tree) (lines : List (Option Asked)) → list_all line_tells_only lines ≡ true → ((run_of g t lines).state ≡ first_state t) × ((run_of g t lines).trees ≡ t ∷ []) }
+{}
+
+/// Each position of the tree that is not dirty is one of the committed tree, and stays so: every command
+/// lists the data blocks that it adds.
+pub fn clean_is_committed()
+    ensures { (g : Request) (s : State) (c : Asked) → IsDirtyWithin g s → IsCleanCommitted g s → IsCleanCommitted g (step g s c).state }
+{}
+
+/// The rules of dirty positions hold after every run, also after the closing step.
+pub fn dirty_is_sound()
+    ensures step { (g : Request) (s : State) (c : Asked) → IsDirtySound g s → IsDirtySound g (step g s c).state }
+    ensures run { (g : Request) (t : Tree) (lines : List (Option Asked)) → IsDirtySound g (run_of g t lines).state }
+    ensures closed { (g : Request) (t : Tree) (lines : List (Option Asked)) → IsDirtySound g (closed (run_of g t lines)).state }
 {}

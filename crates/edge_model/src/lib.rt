@@ -7,6 +7,6 @@ mod laws;
 
 pub use command::{Answer, Command, OpenFlags, Room, Status};
 pub use laws::{
-    dirty_has_ancestors, dirty_within, few_points, last_is_committed, refused_keeps, run_grows,
-    step_reads, step_tells,
+    clean_is_committed, dirty_has_ancestors, dirty_is_sound, dirty_within, few_points,
+    last_is_committed, refused_keeps, run_grows, step_reads, step_tells,
 };
