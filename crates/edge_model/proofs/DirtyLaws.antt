@@ -1,15 +1,16 @@
 -- What steps keep of the dirty positions.
-use Rattle.std.proofs.Common.{◌≡◌, ℕ, not, true, false, List, ◌++◌, filter, Option, Some, None, ◌⊎◌, inl, inr, ⊎_elim, sym, ◌∙◌, subst}
+use Rattle.std.proofs.Common.{ap, refl, Bool, ◌≡◌, ℕ, not, true, false, List, ◌++◌, filter, Option, Some, None, ◌⊎◌, inl, inr, ⊎_elim, sym, ◌∙◌, subst}
 use Rattle.std.proofs.lemmas.Bool.{false≢true, cases_Bool, not_from_false}
 use Rattle.edge_base.specs.declared.geometry.Request.{Request}
 use Rattle.edge_base.specs.Positions.{Position, has, data_at, ancestors, all_ancestors, touched}
 use Rattle.edge_model.specs.Asked.{Asked}
-use Rattle.edge_model.specs.Tree.{Tree, tree_positions}
+use Rattle.edge_model.specs.Tree.{Tree, node_at, numbers_of, tree_positions}
+use Rattle.edge_base.specs.Nodes.{block_of}
 use Rattle.edge_model.specs.State.{State, Edit, point_taken, dirty_of, edited}
 use Rattle.edge_model.specs.Step.{step, plan}
-use Rattle.edge_model.specs.Laws.{IsDirtyWithin, IsDirtyUpwards, IsCleanCommitted}
+use Rattle.edge_model.specs.Laws.{IsDirtyWithin, IsDirtyUpwards, IsCleanCommitted, IsCleanAbove, IsCleanSame}
 use Rattle.edge_model.proofs.Members.{IsAmong, among, is_had, among_append, among_left, among_right, among_filter, from_filter, among_flat_map, from_flat_map}
-use Rattle.edge_model.proofs.Ways.{IsOn, is_on, is_there, there_up, ancestors_up, blocks_of}
+use Rattle.edge_model.proofs.Ways.{none_is_data, IsOn, is_on, is_there, there_up, ancestors_up, blocks_of}
 use Rattle.edge_model.proofs.Outcomes.{each_state}
 
 -- the positions whose ancestors a change touches
@@ -129,3 +130,96 @@ edited_clean g s (Some e) complete within committed = λ p there clean. ⊎_elim
     (cases_Bool (has s.dirty p)))
     (λ dirty. absurd (false≢true (sym clean ∙ is_had (dirty_of g s e) p dirty)))
     (old_or_dirty g s e within complete p (among (tree_positions g e.tree) p there))
+
+-- ---- what is below pointer nodes that are not dirty
+
+-- a change lists each data block of the tree that it removes
+abbrev pub IsRemoved : Request → Tree → Edit → Type 0
+IsRemoved g t e = (n i : ℕ) → IsAmong (blocks_of g (t n)) i → IsAmong (blocks_of g (e.tree n)) i ⊎ IsAmong e.removes (data_at n i)
+
+abbrev pub IsRemovedPlan : Request → Tree → Option Edit → Type 0
+IsRemovedPlan g t None = Unit {0}
+IsRemovedPlan g t (Some e) = IsRemoved g t e
+
+pub point_above : (g : Request) (s : State) → IsCleanAbove g (point_taken s)
+point_above g s p n i there clean up = refl
+
+same_truth : (a b : Bool) → (a ≡ true → b ≡ true) → (b ≡ true → a ≡ true) → a ≡ b
+same_truth true b one two = sym (one refl)
+same_truth false true one two = two refl
+same_truth false false one two = refl
+
+-- a data block of a tree, by its node
+pub block_there : (g : Request) (t : Tree) (n i : ℕ) → has (tree_positions g t) (data_at n i) ≡ true → IsAmong (numbers_of g) n × IsAmong (blocks_of g (t n)) i
+block_there g t n i h =
+    let on = is_on g t (data_at n i) (among (tree_positions g t) (data_at n i) h) in
+    ⊎_elim
+    (λ (same : data_at n i ≡ data_at on.number on.index).
+    let number : on.number ≡ n = ap (λ (p : Position). p.number) (sym same) in
+    let index : on.index ≡ i = ap (λ (p : Position). p.index) (sym same) in
+    (subst (IsAmong (numbers_of g)) number on.is_number, subst (λ j. IsAmong (blocks_of g (t n)) j) index (subst (λ m. IsAmong (blocks_of g (t m)) on.index) number on.is_block)))
+    (λ up. absurd (none_is_data g on.number on.index n i up))
+    on.on_chain
+
+pub there_by_block : (g : Request) (t : Tree) (n i : ℕ) → IsAmong (numbers_of g) n → IsAmong (blocks_of g (t n)) i → has (tree_positions g t) (data_at n i) ≡ true
+there_by_block g t n i number block = is_had (tree_positions g t) (data_at n i) (is_there g t (data_at n i) (record { number = n; index = i; is_number = number; is_block = block; on_chain = inl refl }))
+
+-- below a pointer node that is not dirty after a change nothing was added or removed
+same_below : (g : Request) (s : State) (e : Edit) → IsDirtyWithin g s → IsComplete g s.tree e → IsRemoved g s.tree e
+    → (p : Position) (n i : ℕ) → has (tree_positions g e.tree) p ≡ true → has (dirty_of g s e) p ≡ false → IsAmong (ancestors g (data_at n i)) p
+    → has (tree_positions g e.tree) (data_at n i) ≡ has (tree_positions g s.tree) (data_at n i)
+same_below g s e within complete removed p n i there clean up =
+    let is_dirty = λ (r : IsAmong (lifted s e) (data_at n i)). absurd {A = ⊥} (false≢true (sym clean ∙ is_had (dirty_of g s e) p (since g s e p there (above (data_at n i) r up)))) in
+    same_truth (has (tree_positions g e.tree) (data_at n i)) (has (tree_positions g s.tree) (data_at n i))
+    (λ now. let b = block_there g e.tree n i now in ⊎_elim
+    (λ old. there_by_block g s.tree n i b.0 old)
+    (λ w. ⊎_elim
+    (λ old. old)
+    (λ added. absurd (is_dirty (is_lifted s e (data_at n i) w (not_dirty added))))
+    (cases_Bool (has (tree_positions g s.tree) (data_at n i))))
+    (complete n i b.1))
+    (λ old. let b = block_there g s.tree n i old in ⊎_elim
+    (λ now. there_by_block g e.tree n i b.0 now)
+    (λ r. absurd (is_dirty (among_left e.removes (filter (λ q. not (has s.dirty q)) e.writes) (data_at n i) r)))
+    (removed n i b.1))
+  where
+    not_dirty : has (tree_positions g s.tree) (data_at n i) ≡ false → has s.dirty (data_at n i) ≡ false
+    not_dirty added = ⊎_elim (λ dirty. absurd (false≢true (sym added ∙ within (data_at n i) dirty))) (λ k. k) (cases_Bool (has s.dirty (data_at n i)))
+
+-- what was dirty and is still there is dirty
+was_clean : (g : Request) (s : State) (e : Edit) (p : Position) → has (tree_positions g e.tree) p ≡ true → has (dirty_of g s e) p ≡ false → has s.dirty p ≡ false
+was_clean g s e p there clean = ⊎_elim
+    (λ dirty. absurd (false≢true (sym clean ∙ is_had (dirty_of g s e) p (since g s e p there (before (among s.dirty p dirty))))))
+    (λ k. k)
+    (cases_Bool (has s.dirty p))
+
+pub edited_above : (g : Request) (s : State) (edit : Option Edit) → IsCompletePlan g s.tree edit → IsRemovedPlan g s.tree edit → IsDirtyWithin g s → IsCleanAbove g s → IsCleanAbove g (edited g s edit)
+edited_above g s None complete removed within same = same
+edited_above g s (Some e) complete removed within same = λ p n i there clean up.
+    let old : has (tree_positions g s.tree) p ≡ true = ⊎_elim
+    (λ k. is_had (tree_positions g s.tree) p k)
+    (λ dirty. absurd (false≢true (sym clean ∙ is_had (dirty_of g s e) p dirty)))
+    (old_or_dirty g s e within complete p (among (tree_positions g e.tree) p there)) in
+    same_below g s e within complete removed p n i there clean (among (ancestors g (data_at n i)) p up) ∙ same p n i old (was_clean g s e p there clean) up
+
+-- ---- the bytes of data blocks that are not dirty
+
+-- a change lists each data block whose bytes it changes
+abbrev pub IsWritten : Request → Tree → Edit → Type 0
+IsWritten g t e = (n i : ℕ) → IsAmong (blocks_of g (e.tree n)) i → IsAmong e.writes (data_at n i) ⊎ (IsAmong (blocks_of g (t n)) i × (block_of g (node_at e.tree n) i ≡ block_of g (node_at t n) i))
+
+abbrev pub IsWrittenPlan : Request → Tree → Option Edit → Type 0
+IsWrittenPlan g t None = Unit {0}
+IsWrittenPlan g t (Some e) = IsWritten g t e
+
+pub point_same : (g : Request) (s : State) → IsCleanSame g (point_taken s)
+point_same g s n i there clean = refl
+
+pub edited_same : (g : Request) (s : State) (edit : Option Edit) → IsWrittenPlan g s.tree edit → IsCleanSame g s → IsCleanSame g (edited g s edit)
+edited_same g s None written_all same = same
+edited_same g s (Some e) written_all same = λ n i there clean.
+    let b = block_there g e.tree n i there in
+    ⊎_elim
+    (λ w. absurd (false≢true (sym clean ∙ is_had (dirty_of g s e) (data_at n i) (since g s e (data_at n i) there (written w)))))
+    (λ (k : IsAmong (blocks_of g (s.tree n)) i × (block_of g (node_at e.tree n) i ≡ block_of g (node_at s.tree n) i)). k.1 ∙ same n i (there_by_block g s.tree n i b.0 k.0) (was_clean g s e (data_at n i) there clean))
+    (written_all n i b.1)

@@ -5,6 +5,7 @@ pub mod Plans
 pub mod StepLaws
 pub mod SlotLaws
 pub mod DirtyLaws
+pub mod Changes
 pub mod EditLaws
 pub mod RunLaws
 pub mod ReadLaws

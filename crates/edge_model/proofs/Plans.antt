@@ -7,10 +7,10 @@ use Rattle.edge_base.specs.Refusals.{◌>>=◌}
 pub record Gives {A : Type 0} (P : A → Type 0) (r : Result A Refusal) : Type 0 where
   pub holds : (x : A) → r ≡ Ok x → P x
 
-ok_is : {A : Type 0} (x y : A) (r : Result A Refusal) → r ≡ Ok x → r ≡ Ok y → x ≡ y
+pub ok_is : {A : Type 0} (x y : A) (r : Result A Refusal) → r ≡ Ok x → r ≡ Ok y → x ≡ y
 ok_is x y r one two = cc
 
-err_is_not_ok : {A : Type 0} (e : Refusal) (x : A) (r : Result A Refusal) → r ≡ Err e → r ≡ Ok x → ⊥
+pub err_is_not_ok : {A : Type 0} (e : Refusal) (x : A) (r : Result A Refusal) → r ≡ Err e → r ≡ Ok x → ⊥
 err_is_not_ok e x r one two = cc
 
 pub gives_ok : {A : Type 0} (P : A → Type 0) (x : A) → P x → Gives P (Ok x)

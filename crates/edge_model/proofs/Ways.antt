@@ -1,5 +1,5 @@
 -- Positions of trees, and the ancestors above them.
-use Rattle.std.proofs.Common.{◌≡◌, ℕ, ◌-◌, ◌/◌, Bool, true, false, cond, List, [], ◌∷◌, flat_map, inl, inr, ⊎_elim, refl, sym, subst, nat_lt, Option, Some, None}
+use Rattle.std.proofs.Common.{ap, ◌≡◌, ℕ, ◌-◌, ◌/◌, Bool, true, false, cond, List, [], ◌∷◌, flat_map, inl, inr, ⊎_elim, refl, sym, subst, nat_lt, Option, Some, None}
 use Rattle.edge_base.specs.declared.form.Form.{Form}
 use Rattle.edge_base.specs.declared.form.Form.TheVariants.{Plain, Indirect, Double}
 use Rattle.edge_base.specs.declared.geometry.Request.{Request}
@@ -85,3 +85,17 @@ there_up g t p q h up =
     (λ (k : IsAmong (above_data g on.number on.index) p). data_up g on.number on.index p q k up)
     on.on_chain in
     is_there g t q (record { number = on.number; index = on.index; is_number = on.is_number; is_block = on.is_block; on_chain = inr above })
+
+-- ---- data blocks are no ancestors
+
+data_is_no_indirect : (n i x j : ℕ) → data_at n i ≡ indirect_at x j → ⊥
+data_is_no_indirect n i x j e = let forms : Plain ≡ Indirect = ap (λ (p : Position). p.form) e in cc
+
+data_is_no_double : (n i x d : ℕ) → data_at n i ≡ double_at x d → ⊥
+data_is_no_double n i x d e = let forms : Plain ≡ Double = ap (λ (p : Position). p.form) e in cc
+
+pub none_is_data : (g : Request) (x j n i : ℕ) → IsAmong (above_data g x j) (data_at n i) → ⊥
+none_is_data g x j n i h = ⊎_elim
+    (λ e. data_is_no_indirect n i x ((j - g.direct) / pointers_of g) e)
+    (λ k. let d = only_double g x ((j - g.direct) / pointers_of g) (data_at n i) k in data_is_no_double n i x d.0 d.1)
+    (in_cond (nat_lt j g.direct) (indirect_at x ((j - g.direct) / pointers_of g) ∷ above_indirect g x ((j - g.direct) / pointers_of g)) (data_at n i) h)

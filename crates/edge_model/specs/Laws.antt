@@ -1,10 +1,21 @@
 -- What holds of every state of a session and of every run.
-use Rattle.std.specs.Prelude.{◌≡◌, Bool, true, false, List, [], ◌∷◌, Option, Some, None}
+use Rattle.std.specs.Prelude.{◌≡◌, ℕ, Bool, true, false, List, [], ◌∷◌, Option, Some, None}
 use Rattle.edge_base.specs.declared.geometry.Request.{Request}
-use Rattle.edge_base.specs.Positions.{Position, has, ancestors}
+use Rattle.edge_base.specs.Positions.{Position, has, ancestors, data_at}
+use Rattle.edge_base.specs.Descriptors.{Descriptor, descriptor_at}
+use Rattle.edge_base.specs.Nodes.{Node, block_of}
+use Rattle.edge_base.specs.NodeRules.{IsNode}
 use Rattle.edge_model.specs.Asked.{Asked, close, read, seek, fsync, open_dir, read_dir, rewind, stat, fstat, space, mask, set_mask, transact}
-use Rattle.edge_model.specs.Tree.{Tree, tree_positions}
+use Rattle.edge_model.specs.Tree.{Tree, node_at, is_directory, tree_positions}
 use Rattle.edge_model.specs.State.{State, Outcome}
+
+-- each node keeps the rules of a file or a directory
+abbrev pub HasNodes : Request → Tree → Type 0
+HasNodes g t = (n : ℕ) (node : Node) → t n ≡ Some node → IsNode g node
+
+-- each open descriptor is for a node of its kind
+abbrev pub IsOpenByKind : State → Type 0
+IsOpenByKind s = (h : ℕ) (d : Descriptor) → descriptor_at s.descriptors h ≡ Some d → is_directory s.tree d.number ≡ d.directory
 
 -- ---- dirty positions
 
@@ -20,7 +31,16 @@ IsDirtyUpwards g s = (p q : Position) → has s.dirty p ≡ true → has (ancest
 abbrev pub IsCleanCommitted : Request → State → Type 0
 IsCleanCommitted g s = (p : Position) → has (tree_positions g s.tree) p ≡ true → has s.dirty p ≡ false → has (tree_positions g s.committed) p ≡ true
 
--- the three together
+-- of a pointer node that is not dirty the tree has the same data blocks below it as the committed tree
+abbrev pub IsCleanAbove : Request → State → Type 0
+IsCleanAbove g s = (p : Position) (n i : ℕ) → has (tree_positions g s.tree) p ≡ true → has s.dirty p ≡ false → has (ancestors g (data_at n i)) p ≡ true
+    → has (tree_positions g s.tree) (data_at n i) ≡ has (tree_positions g s.committed) (data_at n i)
+
+-- a data block that is not dirty has its bytes in the committed tree
+abbrev pub IsCleanSame : Request → State → Type 0
+IsCleanSame g s = (n i : ℕ) → has (tree_positions g s.tree) (data_at n i) ≡ true → has s.dirty (data_at n i) ≡ false → block_of g (node_at s.tree n) i ≡ block_of g (node_at s.committed n) i
+
+-- the first three together
 pub record IsDirtySound (g : Request) (s : State) : Type 0 where
   pub within : IsDirtyWithin g s
   pub upwards : IsDirtyUpwards g s
