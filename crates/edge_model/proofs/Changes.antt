@@ -218,7 +218,7 @@ other_false false b h one = absurd (false≢true one)
 no_such : (b : Bool) (P : Type 0) → b ≡ false → b ≡ true → P
 no_such b P is_false is_true = absurd (false≢true (sym is_false ∙ is_true))
 
-not_false : (b : Bool) → not b ≡ false → b ≡ true
+pub not_false : (b : Bool) → not b ≡ false → b ≡ true
 not_false true h = refl
 not_false false h = absurd (false≢true (sym h))
 

@@ -10,3 +10,5 @@ pub mod EditLaws
 pub mod RunLaws
 pub mod ReadLaws
 pub mod CompleteLaws
+pub mod WalkLaws
+pub mod RemoveLaws

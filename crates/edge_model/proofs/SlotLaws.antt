@@ -142,3 +142,26 @@ marked_at (false ∷ flags) a (suc i) h = let same : a + 1 + i ≡ a + suc i = o
 
 pub is_in_marked : (flags : List Bool) (i : ℕ) → slice_index_or flags i false ≡ true → IsAmong (marked_from 0 flags) i
 is_in_marked flags i h = let same : 0 + i ≡ i = omega arith in subst (IsAmong (marked_from 0 flags)) same (marked_at flags 0 i h)
+
+marked_is : (flags : List Bool) (a i : ℕ) → IsAmong (marked_from a flags) i → (j : ℕ) × (i ≡ a + j) × (j < length flags) × (slice_index_or flags j false ≡ true)
+marked_is [] a i h = elim h [ ]
+marked_is (true ∷ flags) a i (inl e) = (0, omega arith, omega arith, refl)
+marked_is (true ∷ flags) a i (inr h) = let r = marked_is flags (a + 1) i h in (suc r.0, omega arith, omega arith, r.3)
+marked_is (false ∷ flags) a i h = let r = marked_is flags (a + 1) i h in (suc r.0, omega arith, omega arith, r.3)
+
+-- a marked index has its flag set
+pub is_marked_in : (flags : List Bool) (i : ℕ) → IsAmong (marked_from 0 flags) i → (i < length flags) × (slice_index_or flags i false ≡ true)
+is_marked_in flags i h =
+    let r = marked_is flags 0 i h in
+    let same : r.0 ≡ i = omega arith in
+    (omega arith, subst (λ j. slice_index_or flags j false ≡ true) same r.3)
+
+-- an index that passes the test is marked
+pub passes_marked : (test : ℕ → Bool) (a n i : ℕ) → a ≤ i → i < a + n → test i ≡ true → IsAmong (marked_from a (map test (range_with_len a n))) i
+passes_marked test a zero i low high h = absurd (omega arith)
+passes_marked test a (suc n) i low high h =
+    let later = λ (k : (i < a) ⊎ (a < i)). passes_marked test (a + 1) n i (let above : a < i = omega arith in omega arith) (omega arith) h in
+    elim (test a) as (λ b. test a ≡ b → IsAmong (marked_from a (b ∷ map test (range_with_len (a + 1) n))) i) [
+      | true ↦ λ here. ⊎_elim (λ (same : i ≡ a). inl same) (λ k. inr (later k)) (cases_order i a)
+      | false ↦ λ none. ⊎_elim (λ (same : i ≡ a). absurd (false≢true (sym none ∙ ap test (sym same) ∙ h))) later (cases_order i a)
+    ] refl
