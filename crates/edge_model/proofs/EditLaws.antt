@@ -45,7 +45,7 @@ with_empty_directory g t n parent writes = at_node g t n (Some (directory [] par
 -- ---- slots
 
 -- the blocks of a node's slots are its own
-slots_have : (g : Request) (node : Option Node) (i : ℕ) → i < slot_blocks g (slots_of_node (unwrap_or node (file [] []))) → IsAmong (blocks_of g node) i
+pub slots_have : (g : Request) (node : Option Node) (i : ℕ) → i < slot_blocks g (slots_of_node (unwrap_or node (file [] []))) → IsAmong (blocks_of g node) i
 slots_have g None i h = absurd (no_pieces (slots_in_block g) i h)
 slots_have g (Some (file content present)) i h = absurd (no_pieces (slots_in_block g) i h)
 slots_have g (Some (directory slots parent)) i h = among_range 0 (slot_blocks g slots) i (omega arith) (omega arith)
@@ -63,7 +63,7 @@ cleared_grows g t d slot writes = at_slots g t d _ writes (λ i h. inl (cleared_
 
 -- ---- files
 
-flags_have : (g : Request) (node : Option Node) (i : ℕ) → is_marked (present_of (unwrap_or node (file [] []))) i ≡ true → IsAmong (blocks_of g node) i
+pub flags_have : (g : Request) (node : Option Node) (i : ℕ) → is_marked (present_of (unwrap_or node (file [] []))) i ≡ true → IsAmong (blocks_of g node) i
 flags_have g None i h = absurd (false≢true h)
 flags_have g (Some (file content present)) i h = is_in_marked present i h
 flags_have g (Some (directory slots parent)) i h = absurd (false≢true h)
@@ -71,7 +71,7 @@ flags_have g (Some (directory slots parent)) i h = absurd (false≢true h)
 in_between : (first last i : ℕ) → first ≤ i → i ≤ last → IsAmong (range_with_len first (last + 1 - first)) i
 in_between first last i low high = among_range first (last + 1 - first) i low (omega arith)
 
-touched_listed : (g : Request) (n at len i : ℕ) → is_touched g at len i ≡ true → IsAmong (map (data_at n) (blocks_touched g at len)) (data_at n i)
+pub touched_listed : (g : Request) (n at len i : ℕ) → is_touched g at len i ≡ true → IsAmong (map (data_at n) (blocks_touched g at len)) (data_at n i)
 touched_listed g n at len i h =
     let ends = and_parts _ _ h in
     among_map (data_at n) (blocks_touched g at len) i (in_between (first_touched g at) (last_touched g at len) i (leb-true (first_touched g at) i ends.0) (leb-true i (last_touched g at len) ends.1))

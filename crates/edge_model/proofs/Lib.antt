@@ -11,4 +11,7 @@ pub mod RunLaws
 pub mod ReadLaws
 pub mod CompleteLaws
 pub mod WalkLaws
+pub mod BlockLaws
+pub mod WriteLaws
 pub mod RemoveLaws
+pub mod CleanLaws

@@ -4,7 +4,7 @@ ghost use Rattle.edge_base.specs.declared.geometry.Request.{Request};
 ghost use Rattle.edge_base.specs.declared.refusal.Refusal.{Refusal};
 ghost use Rattle.edge_base.specs.declared.refusal.Refusal.TheVariants.{NoSpace};
 ghost use Rattle.edge_model.specs.Asked.{Asked};
-ghost use Rattle.edge_model.specs.Laws.{IsDirtyWithin, IsDirtyUpwards, IsCleanCommitted, IsDirtySound, TakesNone, TakesOne, last_or, reads_only, tells_only, line_tells_only};
+ghost use Rattle.edge_model.specs.Laws.{IsDirtyWithin, IsDirtyUpwards, HasNodes, IsOpenByKind, IsCleanCommitted, IsCleanAbove, IsCleanSame, IsDirtySound, TakesNone, TakesOne, last_or, reads_only, tells_only, line_tells_only};
 ghost use Rattle.edge_model.specs.Run.{run_of, next_line, closed};
 ghost use Rattle.edge_model.specs.State.{State, first_state, point_taken, gains_by_point};
 ghost use Rattle.edge_model.specs.Step.{step};
@@ -67,4 +67,16 @@ pub fn dirty_is_sound()
     ensures step { (g : Request) (s : State) (c : Asked) → IsDirtySound g s → IsDirtySound g (step g s c).state }
     ensures run { (g : Request) (t : Tree) (lines : List (Option Asked)) → IsDirtySound g (run_of g t lines).state }
     ensures closed { (g : Request) (t : Tree) (lines : List (Option Asked)) → IsDirtySound g (closed (run_of g t lines)).state }
+{}
+
+/// A data block that is not dirty has its bytes in the committed tree, and stays so: every command lists
+/// the data blocks whose bytes it changes.
+pub fn clean_data_is_committed()
+    ensures { (g : Request) (s : State) (c : Asked) → HasNodes g s.tree → IsCleanSame g s → IsCleanSame g (step g s c).state }
+{}
+
+/// A pointer node that is not dirty has the data blocks of the committed tree below it, and stays so:
+/// every command lists the data blocks that it adds and removes.
+pub fn clean_pointers_are_committed()
+    ensures { (g : Request) (s : State) (c : Asked) → HasNodes g s.tree → IsOpenByKind s → IsDirtyWithin g s → IsCleanAbove g s → IsCleanAbove g (step g s c).state }
 {}
