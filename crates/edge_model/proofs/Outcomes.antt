@@ -16,7 +16,7 @@ pub record Ends (g : Request) (s : State) (r : Result Plan Refusal) (P : Outcome
   pub fitting_then : (p : Plan) (e : Edit) → r ≡ Ok p → p.edit ≡ Some e → fits g s e ≡ false → gains_by_point g s ≡ true → fits g (point_taken s) e ≡ true → P (carried_out g (point_taken s) p (s.tree ∷ []))
   pub full_then : (p : Plan) (e : Edit) → r ≡ Ok p → p.edit ≡ Some e → fits g s e ≡ false → gains_by_point g s ≡ true → fits g (point_taken s) e ≡ false → P (refused (point_taken s) NoSpace (s.tree ∷ []))
 
-abbrev finish : Request → Plan → Judged → Outcome
+abbrev pub finish : Request → Plan → Judged → Outcome
 finish g p j = finished j.fits g p j
 
 edit_ends : (g : Request) (s : State) (r : Result Plan Refusal) (P : Outcome → Type 0) → Ends g s r P → (p : Plan) (e : Edit) → r ≡ Ok p → p.edit ≡ Some e → P (finish g p (judged_by (fits g s e) g s e))

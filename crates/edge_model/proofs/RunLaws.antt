@@ -1,5 +1,5 @@
 -- Laws of runs.
-use Rattle.std.proofs.Common.{◌≡◌, ◌+◌, Bool, true, false, List, [], ◌∷◌, ◌++◌, length, fold, Option, Some, None, refl, ap, ◌∙◌, arith}
+use Rattle.std.proofs.Common.{ℕ, zero, suc, ◌<◌, slice_index_or, ◌≡◌, ◌+◌, Bool, true, false, List, [], ◌∷◌, ◌++◌, length, fold, Option, Some, None, refl, ap, ◌∙◌, arith}
 use Rattle.std.proofs.lemmas.List.{length-append}
 use Rattle.std.proofs.lemmas.List.Sums.{fold-append}
 use Rattle.edge_base.specs.declared.geometry.Request.{Request}
@@ -63,3 +63,22 @@ closed_by_last t false r h = h
 -- also after the closing step
 pub closed_last : (g : Request) (t : Tree) (lines : List (Option Asked)) → last_or t (closed (run_of g t lines)).trees ≡ (closed (run_of g t lines)).state.committed
 closed_last g t lines = closed_by_last t (closes_with_point (run_of g t lines).state) (run_of g t lines) (run_last g t lines)
+
+line_begins : (g : Request) (t : Tree) (r : Run) (line : Option Asked) → (rest : List Tree) × (r.trees ≡ t ∷ rest) → (rest : List Tree) × ((next_line g r line).trees ≡ t ∷ rest)
+line_begins g t r None h = h
+line_begins g t r (Some c) h = (h.0 ++ (step g r.state c).points, ap (λ trees. trees ++ (step g r.state c).points) h.1)
+
+-- the first tree of a run is the opening one
+pub run_begins : (g : Request) (t : Tree) (lines : List (Option Asked)) → (rest : List Tree) × ((run_of g t lines).trees ≡ t ∷ rest)
+unfolding run_of
+run_begins g t lines = run_keeps (λ r. (rest : List Tree) × (r.trees ≡ t ∷ rest)) g (line_begins g t) (opening t) lines ([], refl)
+
+same_within : (trees : List Tree) (i : ℕ) (one two : Tree) → i < length trees → slice_index_or trees i one ≡ slice_index_or trees i two
+same_within [] i one two h = absurd (omega arith)
+same_within (t ∷ trees) zero one two h = refl
+same_within (t ∷ trees) (suc i) one two h = same_within trees i one two (omega arith)
+
+-- the last tree by its index
+pub last_at : (t : Tree) (trees : List Tree) → last_or t trees ≡ slice_index_or (t ∷ trees) (length trees) t
+last_at t [] = refl
+last_at t (next ∷ trees) = last_at next trees ∙ same_within (next ∷ trees) (length trees) next t (omega arith)

@@ -8,6 +8,6 @@ mod laws;
 pub use command::{Answer, Command, OpenFlags, Room, Status};
 pub use laws::{
     clean_data_is_committed, clean_is_committed, clean_pointers_are_committed, dirty_has_ancestors,
-    dirty_is_sound, dirty_within, few_points, last_is_committed, refused_keeps, run_grows,
-    step_reads, step_tells,
+    dirty_is_sound, dirty_within, few_points, last_is_committed, refused_keeps, room_comes_last,
+    run_grows, step_reads, step_tells,
 };
