@@ -40,7 +40,7 @@ IsCleanAbove g s = (p : Position) (n i : ℕ) → has (tree_positions g s.tree) 
 abbrev pub IsCleanSame : Request → State → Type 0
 IsCleanSame g s = (n i : ℕ) → has (tree_positions g s.tree) (data_at n i) ≡ true → has s.dirty (data_at n i) ≡ false → block_of g (node_at s.tree n) i ≡ block_of g (node_at s.committed n) i
 
--- the first three together
+-- the rules that hold of the dirty positions after every run
 pub record IsDirtySound (g : Request) (s : State) : Type 0 where
   pub within : IsDirtyWithin g s
   pub upwards : IsDirtyUpwards g s
