@@ -16,3 +16,4 @@ pub mod SpaceRows
 pub mod NamesRows
 pub mod DescriptorsRows
 pub mod Asking
+pub mod Laws
