@@ -7,8 +7,9 @@ use Rattle.edge_base.specs.Places.{max_blocks_of, max_size_of}
 use Rattle.edge_base.specs.Slots.{Entry, Slots, pieces, is_name, slot_blocks, trimmed}
 use Rattle.edge_base.specs.Nodes.{Node, file, directory}
 
--- A file has at most the greatest size, a flag for each block up to its end, and zeros where a block is absent.
+-- A file has bytes, at most the greatest size of them, a flag for each block up to its end, and zeros where a block is absent.
 pub record IsFile (g : Request) (content : List ℕ) (present : List Bool) : Type 0 where
+  pub bytes : All (λ byte. byte < 256) content
   pub size : length content ≤ max_size_of g
   pub flags : length present ≡ pieces g.block_size (length content)
   pub absent_zero : (k : ℕ) → slice_index_or present (k / g.block_size) false ≡ false → slice_index content k ≡ 0
@@ -19,6 +20,7 @@ entries_of_slots slots = filter_map (λ slot. slot) slots
 
 -- an entry has a name of the geometry, and the number of a node that is not the root
 pub record IsEntry (g : Request) (e : Entry) : Type 0 where
+  pub bytes : All (λ byte. byte < 256) e.name
   pub name : is_name g e.name ≡ true
   pub from : 3 ≤ e.number
   pub below : e.number < 2 + g.inodes

@@ -1,2 +1,4 @@
+pub mod HostClock
 pub mod HostDisk
+pub mod HostFolder
 pub mod Streams

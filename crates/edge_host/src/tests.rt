@@ -1,12 +1,15 @@
-ghost use Rattle.std.specs.Prelude.{◌≤◌, IfOk};
+ghost use Rattle.std.specs.Prelude.{◌≡◌, ◌≤◌, length, IfOk};
 
 use super::*;
 use crate::transfer::{read_some, write_some};
 use edge_disk::{DeviceFault, Disk};
-use edge_io::{Sink, Source};
+use edge_io::{Clock, Folder, FolderFault, Item, ItemKind, Sink, Source};
+use std::cell::Cell;
 use std::io::{ErrorKind, Read, Write};
+use std::os::unix::fs::symlink;
 use std::test::Fail;
-use std::{fs, io};
+use std::time::Duration;
+use std::{fs, io, rt};
 
 // Reads the block if the disk has it.
 fn read_block<D: Disk>(
@@ -129,4 +132,116 @@ fn transfers_go_on_after_an_interrupt(rt: HostRuntime) {
         assert_eq!(rt; read_some(&mut Answers(&answers), &mut [0; 3]).ok(), given);
         assert_eq!(rt; write_some(&mut Answers(&answers), &[0; 3]).ok(), taken);
     }
+}
+
+// The next item of a folder, and how many of its bytes one call gives.
+fn take_item<F: Folder>(
+    folder: &mut F,
+    path: &mut [u8],
+    out: &mut [u8],
+) -> Result<Option<(Item, usize)>, FolderFault>
+    requires { length path.old ≡ 4096 }
+{
+    let Some(item) = folder.next(path)? else {
+        return Ok(None);
+    };
+    let count = folder.bytes(out)?;
+    Ok(Some((item, count)))
+}
+
+// Three files, of which one is in a directory, an empty directory, and a link to a file.
+fn make_folder(files: &impl rt::Files) -> io::Result<()> {
+    fs::create_dir_all(files, "edge_host_test_folder/a")?;
+    fs::create_dir(files, "edge_host_test_folder/c")?;
+    fs::write(files, "edge_host_test_folder/a/z", "in a")?;
+    fs::write(files, "edge_host_test_folder/a-b", "")?;
+    fs::write(files, "edge_host_test_folder/B", "in B")?;
+    symlink(files, "B", "edge_host_test_folder/b")
+}
+
+#[test]
+fn folder_gives_what_is_in_it(rt: HostRuntime) -> Result<(), Fail> {
+    let root = "edge_host_test_folder";
+    let mut folder = HostFolder::new(&rt, root)?;
+    let (mut path, mut out) = ([0; 4096], [0; 9]);
+    assert_eq!(rt; folder.bytes(&mut out), Err(FolderFault));
+    assert_eq!(rt;
+        take_item(&mut folder, &mut path, &mut out),
+        Err(FolderFault)
+    );
+
+    make_folder(&rt)?;
+    for (name, kind, bytes) in [
+        ("B", ItemKind::File, "in B"),
+        ("a", ItemKind::Directory, ""),
+        ("a/z", ItemKind::File, "in a"),
+        ("a-b", ItemKind::File, ""),
+        ("c", ItemKind::Directory, ""),
+    ] {
+        let answer = take_item(&mut folder, &mut path, &mut out);
+        let path_len = name.len();
+        assert_eq!(rt;
+            answer,
+            Ok(Some((Item { kind, path_len }, bytes.len()))),
+            "at {name}"
+        );
+        assert!(rt; path_len <= path.len() && bytes.len() <= out.len());
+        assert_eq!(rt; &path[..path_len], name.as_bytes());
+        assert_eq!(rt; &out[..bytes.len()], bytes.as_bytes(), "at {name}");
+    }
+    assert_eq!(rt; take_item(&mut folder, &mut path, &mut out), Ok(None));
+    fs::remove_dir_all(&rt, root)?;
+    Ok(())
+}
+
+fn moment_of<C: Clock>(clock: &mut C) -> u32 {
+    clock.now()
+}
+
+// A clock of the host that answers these seconds in turn, or an error; then each answer is one.
+#[derive(Drop)]
+struct Answered<'a> {
+    seconds: &'a [Option<u64>],
+    calls: Cell<usize>,
+}
+
+impl rt::Clock for Answered<'_> {
+    fn monotonic(&self) -> io::Result<Duration> {
+        Err(ErrorKind::Unsupported.into())
+    }
+
+    fn since_1970(&self) -> io::Result<Duration> {
+        let call = self.calls.get();
+        self.calls.set(call.saturating_add(1));
+        match self.seconds.get(call) {
+            Some(Some(seconds)) => Ok(Duration::from_secs(*seconds)),
+            _ => Err(ErrorKind::Other.into()),
+        }
+    }
+}
+
+#[test]
+fn clock_gives_its_last_moment_again(rt: HostRuntime) -> Result<(), Fail> {
+    let seconds = [
+        None,
+        Some(7),
+        None,
+        Some(4294967296),
+        Some(4294967295),
+        Some(3),
+    ];
+    let calls = Cell::new(0);
+    let mut clock = HostClock::new(Answered {
+        seconds: &seconds,
+        calls,
+    });
+    for moment in [0, 7, 7, 7, 4294967295, 3, 3] {
+        assert_eq!(rt; moment_of(&mut clock), moment);
+    }
+
+    let before = rt::Clock::since_1970(&rt)?.as_secs();
+    let moment = u64::from(moment_of(&mut HostClock::new(&rt)));
+    let after = rt::Clock::since_1970(&rt)?.as_secs();
+    assert!(rt; before <= moment && moment <= after);
+    Ok(())
 }

@@ -90,41 +90,42 @@ fn sink_takes_pieces(rt: HostRuntime) -> Result<(), Fail> {
     Ok(())
 }
 
+// A directory with a file in it, and a file that comes after them.
+const ITEMS: [FolderItem<'static>; 3] = [
+    FolderItem {
+        path: b"b",
+        kind: ItemKind::Directory,
+        bytes: b"none",
+    },
+    FolderItem {
+        path: b"b/c",
+        kind: ItemKind::File,
+        bytes: b"xyz",
+    },
+    FolderItem {
+        path: b"a",
+        kind: ItemKind::File,
+        bytes: b"uvw",
+    },
+];
+
 #[test]
 fn folder_gives_items(rt: HostRuntime) -> Result<(), Fail> {
-    let (file, directory) = (ItemKind::File, ItemKind::Directory);
-    let items = [
-        FolderItem {
-            path: b"b",
-            kind: directory,
-            bytes: b"none",
-        },
-        FolderItem {
-            path: b"b/c",
-            kind: file,
-            bytes: b"xyz",
-        },
-        FolderItem {
-            path: b"a",
-            kind: file,
-            bytes: b"uvw",
-        },
-    ];
-    let mut folder = MemoryFolder::new(rt.alloc(), &items, &[1, 4, 7, 12])?;
+    let mut folder = MemoryFolder::new(rt.alloc(), &ITEMS, &[1, 4, 7, 12])?;
     let mut room = [0; 4096];
     // The call, the kind of the item that it gives, and its path or the bytes, none where the call fails.
     for (call, kind, wanted) in [
         (Call::Bytes, None, Some("")),
         (Call::Next, None, None),
-        (Call::Next, Some(directory), Some("b")),
+        (Call::Next, Some(ItemKind::Directory), Some("b")),
         (Call::Bytes, None, Some("")),
         (Call::Next, None, None),
-        (Call::Next, Some(file), Some("b/c")),
+        (Call::Next, Some(ItemKind::File), Some("b/c")),
         (Call::Bytes, None, Some("xy")),
         (Call::Bytes, None, None),
         (Call::Bytes, None, Some("z")),
         (Call::Bytes, None, Some("")),
-        (Call::Next, Some(file), Some("a")),
+        (Call::Next, Some(ItemKind::File), Some("a")),
         (Call::Bytes, None, Some("uv")),
         (Call::Next, None, None),
         (Call::Next, None, Some("")),

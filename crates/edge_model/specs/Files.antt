@@ -50,7 +50,7 @@ plan_read s h count = do
 abbrev pub put_at : List ℕ → ℕ → List ℕ → List ℕ
 put_at content at new = take at (content ++ replicate (at - length content) 0) ++ new ++ drop (at + length new) content
 
--- the first block that bytes from a place touch, and how many they touch
+-- the first and the last block that bytes from a place touch
 abbrev pub first_touched : Request → ℕ → ℕ
 first_touched g at = at / g.block_size
 

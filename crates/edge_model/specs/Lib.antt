@@ -9,3 +9,10 @@ pub mod Names
 pub mod Step
 pub mod Run
 pub mod Rules
+pub mod Rows
+pub mod PointsRows
+pub mod FilesRows
+pub mod SpaceRows
+pub mod NamesRows
+pub mod DescriptorsRows
+pub mod Asking

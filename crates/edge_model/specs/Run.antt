@@ -1,5 +1,5 @@
 -- Runs: lines, one after another, and the trees at the points that they take.
-use Rattle.std.specs.Prelude.{Bool, true, false, List, [], ◌∷◌, ◌++◌, Option, Some, None, Result, fold}
+use Rattle.std.specs.Prelude.{if◌then◌else◌, List, [], ◌∷◌, ◌++◌, Option, Some, None, Result, fold}
 use Rattle.edge_base.specs.declared.geometry.Request.{Request}
 use Rattle.edge_base.specs.declared.refusal.Refusal.{Refusal}
 use Rattle.edge_model.specs.Asked.{Asked, Reply}
@@ -32,10 +32,13 @@ next_line g r (Some command) = after_outcome r (step g r.state command)
 unfoldable pub run_of : Request → Tree → List (Option Asked) → Run
 run_of g t lines = fold (next_line g) (opening t) lines
 
-abbrev pub closed_by : Bool → Run → Run
-closed_by true r = record { state = point_taken r.state; answers = r.answers; trees = r.trees ++ r.state.tree ∷ [] }
-closed_by false r = r
-
 -- the closing step: a point where the mask asks for one at the end
+abbrev pub closing_state : State → State
+closing_state s = if closes_with_point s then point_taken s else s
+
+-- the trees of its points
+abbrev pub closing_trees : State → List Tree
+closing_trees s = if closes_with_point s then s.tree ∷ [] else []
+
 abbrev pub closed : Run → Run
-closed r = closed_by (closes_with_point r.state) r
+closed r = record { state = closing_state r.state; answers = r.answers; trees = r.trees ++ closing_trees r.state }

@@ -7,7 +7,7 @@ pub struct OpenFlags {
     pub write: bool,
     /// A file that is absent is made.
     pub create: bool,
-    /// With `create`: a file that is there is refused.
+    /// With `create`: a path that is there is refused.
     pub exclusive: bool,
     /// A file that is there is cut to no bytes.
     pub truncate: bool,
@@ -15,7 +15,7 @@ pub struct OpenFlags {
     pub append: bool,
 }
 
-/// A command, as `docs/COMMANDS.md` has them. `h` is an open descriptor.
+/// A command, as `docs/COMMANDS.md` has them. `h` is the number of a descriptor.
 #[derive(Clone, Copy, Debug)]
 pub enum Command<'a> {
     OpenFile { path: &'a [u8], flags: OpenFlags },

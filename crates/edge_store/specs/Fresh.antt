@@ -1,5 +1,5 @@
 -- The fresh positions of a change: those that it makes dirty and that are not dirty yet.
-use Rattle.std.specs.Prelude.{◌==◌, ◌&&◌, ◌||◌, not, ℕ, Bool, List, filter}
+use Rattle.std.specs.Prelude.{◌==◌, ◌&&◌, ◌||◌, not, ℕ, Bool, false, List, filter}
 use Rattle.std.specs.List.{range_with_len}
 use Rattle.edge_base.specs.declared.geometry.Request.{Request}
 use Rattle.edge_base.specs.Places.{max_blocks_of}
@@ -21,9 +21,9 @@ module _ (g : Request) (committed working : View) (writes removes : List Positio
   abbrev pub is_there_after : Position → Bool
   is_there_after p = has (positions_of g p.number (filter (has_after p.number) (range_with_len 0 (max_blocks_of g)))) p
 
-  -- of the positions that the change touches, those that are there after it and are not dirty
+  -- Of the data positions that are written or added, and the ancestors of these and of the removed ones, those that are there after the change and are not dirty.
   abbrev pub fresh_positions : List Position
-  fresh_positions = filter (λ p. is_there_after p && not (is_dirty g committed working p)) (touched g (is_dirty g committed working) writes removes)
+  fresh_positions = filter (λ p. is_there_after p && not (is_dirty g committed working p)) (touched g (λ p. false) writes removes)
 
   -- how many
   unfoldable pub fresh_count : ℕ

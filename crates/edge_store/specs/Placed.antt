@@ -1,12 +1,13 @@
 -- Where the blocks of a node are, and when a view has a node.
-use Rattle.std.specs.Prelude.{◌≡◌, ◌≢◌, ◌↔◌, ℕ, ◌+◌, ◌-◌, ◌/◌, ◌%◌, ◌<◌, ◌==◌, true, nat_lt, if◌then◌else◌, List, [], ◌∷◌, slice_index, Some}
+use Rattle.std.specs.Prelude.{◌≡◌, ◌≢◌, ◌↔◌, ℕ, ◌+◌, ◌-◌, ◌/◌, ◌%◌, ◌<◌, ◌≤◌, ◌==◌, true, nat_lt, if◌then◌else◌, List, [], ◌∷◌, slice_index, Some}
 use Rattle.std.specs.List.{list_any}
 use Rattle.edge_base.specs.declared.form.Form.{Form}
 use Rattle.edge_base.specs.declared.form.Form.TheVariants.{Plain, Indirect, Double}
 use Rattle.edge_base.specs.declared.geometry.Request.{Request}
 use Rattle.edge_base.specs.declared.way.Way.{Way}
 use Rattle.edge_base.specs.declared.way.Way.TheVariants as way
-use Rattle.edge_base.specs.Places.{pointers_of}
+use Rattle.edge_base.specs.Places.{pointers_of, max_size_of}
+use Rattle.edge_base.specs.Slots.{pieces}
 use Rattle.edge_base.specs.Positions.{Position, has, positions_of, positions_of_form}
 use Rattle.edge_base.specs.Nodes.{Node, indices_of, block_of, size_of, kind_of, parent_of}
 use Rattle.edge_base.specs.NodeRules.{IsNode}
@@ -69,11 +70,20 @@ pub record HasPlaces (g : Request) (v : View) (n : ℕ) (indices : List ℕ) : T
 abbrev pub IsOnce : Request → View → ℕ → List ℕ → Type 0
 IsOnce g v n indices = (p q : Position) → has (positions_of g n indices) p ≡ true → has (positions_of g n indices) q ≡ true → block_at g v p ≡ block_at g v q → p ≡ q
 
--- Node n taken by itself has the shape of a node: its pointers lead where some data blocks need them, and no two to one block.
+-- Node n taken by itself has the shape of a node: it has an inode that can be read, its pointers lead where some data blocks need them, and no two to one block.
 pub record IsShaped (g : Request) (v : View) (n : ℕ) : Type 0 where
+  pub head : Head
+  pub entries : List ℕ
+  pub inode : v.inodes n ≡ Some (whole head entries)
   pub indices : List ℕ
   pub places : HasPlaces g v n indices
   pub once : IsOnce g v n indices
+
+-- Besides, its size is at most the greatest, and it has no data block past its end.
+pub record IsSized (g : Request) (v : View) (n : ℕ) : Type 0 where
+  pub shaped : IsShaped g v n
+  pub size : shaped.head.size ≤ max_size_of g
+  pub ends : (i : ℕ) → list_any (λ k. k == i) shaped.indices ≡ true → i < pieces g.block_size shaped.head.size
 
 -- The blocks of node n are those of a file or a directory, and hold its bytes or its slots.
 pub record HoldsNode (g : Request) (v : View) (n : ℕ) (node : Node) : Type 0 where

@@ -1,12 +1,12 @@
 -- A view: the inodes by number, and the used allocable blocks with what they hold.
-use Rattle.std.specs.Prelude.{ℕ, ◌+◌, ◌==◌, ◌&&◌, not, Bool, true, false, nat_le, nat_lt, nat_eq, is_some, count_by, List, [], replicate, Option, Some, None}
+use Rattle.std.specs.Prelude.{◌≡◌, ◌≤◌, ◌<◌, ℕ, length, ◌+◌, ◌==◌, ◌&&◌, not, Bool, true, false, nat_le, nat_lt, nat_eq, is_some, count_by, List, [], replicate, Option, Some, None}
 use Rattle.std.specs.List.{range_with_len}
 use Rattle.std.specs.Map.{update}
 use Rattle.edge_base.specs.declared.form.Form.{Form}
 use Rattle.edge_base.specs.declared.form.Form.TheVariants.{Plain, Indirect, Double}
 use Rattle.edge_base.specs.declared.geometry.Request.{Request}
 use Rattle.edge_base.specs.declared.node.Head.{Head}
-use Rattle.edge_base.specs.Places.{pointers_of, first_allocable_of, allocable_of}
+use Rattle.edge_base.specs.Places.{entries_of, pointers_of, first_allocable_of, allocable_of}
 
 -- what a number has: a head and its entries, or an inode that cannot be read
 pub data Inode : Type 0 where
@@ -85,6 +85,19 @@ head_of_inode (Some (whole head entries)) = Some head
 head_of_inode (Some broken) = None
 head_of_inode None = None
 
+-- ---- what holds of every view
+
+abbrev pub is_allocable : Request → ℕ → Bool
+is_allocable g b = nat_le (first_allocable_of g) b && nat_lt b (first_allocable_of g + allocable_of g)
+
+-- A view of a geometry: numbers from 2 to m + 1, each whole inode with all entries, allocable blocks of the block size, pointer nodes with all pointers.
+pub record IsView (g : Request) (v : View) : Type 0 where
+  pub numbers : (n : ℕ) → is_some (v.inodes n) ≡ true → (2 ≤ n) × (n < 2 + g.inodes)
+  pub full_inodes : (n : ℕ) (head : Head) (entries : List ℕ) → v.inodes n ≡ Some (whole head entries) → length entries ≡ entries_of g
+  pub allocable : (b : ℕ) → is_used v b ≡ true → is_allocable g b ≡ true
+  pub full_blocks : (b : ℕ) (block : Block) → v.blocks b ≡ Some block → length block.bytes ≡ g.block_size
+  pub full_nodes : (form : Form) (b : ℕ) (node : Pointers) → content_at v form b ≡ pointers (Some node) → length node.entries ≡ pointers_of g
+
 -- ---- changes
 
 abbrev pub with_inode : View → ℕ → Option Inode → View
@@ -94,9 +107,6 @@ abbrev pub with_block : View → ℕ → Option Block → View
 with_block v b block = record v { blocks = update nat_eq v.blocks b block }
 
 -- ---- room
-
-abbrev pub is_allocable : Request → ℕ → Bool
-is_allocable g b = nat_le (first_allocable_of g) b && nat_lt b (first_allocable_of g + allocable_of g)
 
 -- how many allocable blocks pass a test
 abbrev pub count_allocable : Request → (ℕ → Bool) → ℕ
