@@ -6,3 +6,4 @@ pub mod MountLaws
 pub mod TopLaws
 pub mod RunLaws
 pub mod SoundLaws
+pub mod TextLaws

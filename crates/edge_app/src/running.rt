@@ -10,7 +10,7 @@ ghost use Rattle.edge_app.specs.Mount.{IsUntouched};
 ghost use Rattle.edge_app.specs.Report.{is_run_status, is_session, has_no_session, MeetsDamage, Served, Unserved};
 ghost use Rattle.edge_app.specs.Script.{HoldsLines, lines_of, replies_to, IsInLimits};
 ghost use Rattle.edge_app.specs.Stream.{pending, used_of, ended_of};
-ghost use Rattle.edge_app.specs.Trees.{run_text};
+ghost use Rattle.edge_app.specs.Trees.{run_text, TookText};
 
 use crate::lines::LineReader;
 use crate::report::{DEVICE, MEMORY, Outcome, Report};
@@ -106,6 +106,8 @@ pub fn run_image<S: Source, K: Sink, D: Disk>(
         → (n : ℕ) × (K.taken out.new ≡ K.taken out.old ++ take n (run_text opens.master.geometry t (lines_of (S.left src.old)))) }
     ensures all_replies { result.report.status ≡ 0 → IsTrue (D.origin disk).shows → IsTrue (S.tells src.old) → IsTrue (K.tells out.old) → (t : Tree) (opens : OpensTo (shown_image (D.origin disk) (D.shown disk)) t)
         → K.taken out.new ≡ K.taken out.old ++ run_text opens.master.geometry t (lines_of (S.left src.old)) }
+    ensures text { IsTrue (D.origin disk).shows → IsTrue (S.tells src.old) → IsTrue (K.tells out.old) → (t : Tree) (opens : OpensTo (shown_image (D.origin disk) (D.shown disk)) t)
+        → TookText opens.master.geometry t (S.left src.old) result.report (K.taken out.old) (K.taken out.new) }
     ensures opens { (t : Tree) → IsSound (D.origin disk) (D.shown disk) (D.is_sure disk) (D.faults disk) t
         → (image : Image) → IsPermitted (D.origin result.disk) (D.may_hold result.disk) (D.is_sure result.disk) image → IsPlain (D.origin result.disk) (D.may_hold result.disk) image → OpensTo image t }
 {

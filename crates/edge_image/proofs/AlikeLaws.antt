@@ -100,7 +100,7 @@ module _ (g : Request) (image other : Image) (alike : IsAlike image other) (fits
 -- ---- what an image is mounted with
 
 -- an image that opens is mounted with its master and its live metaroot
-mounted_with : (image : Image) (t : Tree) → (opens : OpensTo image t) → IsMountable image opens.master opens.live
+pub mounted_with : (image : Image) (t : Tree) → (opens : OpensTo image t) → IsMountable image opens.master opens.live
 mounted_with image t opens =
     let so = without_a_reason image opens.mounts in
     let master : so.0 ≡ opens.master = let e = sym so.2.is_master ∙ opens.is_master in cc in

@@ -6,3 +6,4 @@ pub mod BlockLaws
 pub mod TreeLaws
 pub mod FreshLaws
 pub mod AlikeLaws
+pub mod RoomLaws
