@@ -79,9 +79,6 @@ returns-clause-all_replies g c = λ done shows tells told t opens.
     let whole = returns-clause-whole g c done shows tells told (head_of_node opens.master.geometry t 2 (directory node.0 0)) (opens_ready (shown_image (g.D.Disk.origin c.args.disk) (g.D.Disk.shown c.args.disk)) t (directory node.0 0) opens node.1) in
     whole ∙ ap (λ text. g.K.Sink.taken c.args.out.now ++ text) (sym (text_of_run opens.master.geometry t (directory node.0 0) (lines_of (g.S.Source.left c.args.src.now)) node.1))
 
-pub returns-then-not-is_run-clause-text : goal.returns-then-not-is_run-clause-text
-returns-then-not-is_run-clause-text g c = λ shows tells told t opens. nothing_taken _ t _ c.unserved.result _ (ap (λ (r : Report). r.commands) c.unserved.ensures) (λ four. let two = ap (λ (r : Report). r.status) c.unserved.ensures in omega arith)
-
 pub returns-in_default-clause-text : goal.returns-in_default-clause-text
 returns-in_default-clause-text g c = λ shows tells told t opens. nothing_taken _ t _ c.unserved-in_default.result _ (ap (λ (r : Report). r.commands) c.unserved-in_default.ensures) (λ four. let seven = ap (λ (r : Report). r.status) c.unserved-in_default.ensures in omega arith)
 
