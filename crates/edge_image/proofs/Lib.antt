@@ -5,3 +5,6 @@ pub mod SlotLaws
 pub mod BlockLaws
 pub mod TreeLaws
 pub mod FreshLaws
+pub mod EmptyRootLaws
+pub mod FormattedLaws
+pub mod SameLaws

@@ -3,3 +3,5 @@ pub mod Ready
 pub mod View
 pub mod Opens
 pub mod Fresh
+pub mod Formatted
+pub mod Same

@@ -16,6 +16,12 @@ ghost use Rattle.edge_model.specs.Tree.{Tree, only_root};
 ghost use Rattle.edge_image.specs.Fresh.{fresh_image};
 ghost use Rattle.edge_image.specs.Opens.{OpensTo, head_of_node};
 
+mod formatted;
+mod same;
+
+pub use formatted::formatted_opens;
+pub use same::same_image_opens;
+
 /// The live metaroot is the valid one that no other beats, and there is no other such one.
 pub fn live_is_the_greater()
     ensures { (g : Request) (image : Image) (live : Live) → (live_of g image ≡ Some live) ↔ IsLive g image live }
