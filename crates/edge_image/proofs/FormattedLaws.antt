@@ -67,7 +67,7 @@ no_bad_imap g image bytes inline =
 
 -- ---- the live metaroot
 
-no_signature : (n : ℕ) → signature_in (replicate n 0) ≡ 0
+pub no_signature : (n : ℕ) → signature_in (replicate n 0) ≡ 0
 unfolding signature_in
 no_signature n = let a = zeros_read n 0 in let b = zeros_read n 1 in let c = zeros_read n 2 in let d = zeros_read n 3 in omega arith
 
@@ -134,9 +134,10 @@ in_byte : (n i q r : ℕ) → i ≡ 8 * q + r → r < 8 → (bit_at (get_or (1 �
 in_byte n i zero r at below = first_byte_bit r below ∙ ap (λ (k : ℕ). k == 0) (let same : r ≡ i = omega arith in same)
 in_byte n i (suc q) r at below = ap (λ (x : ℕ). bit_at x r == 1) (zeros_read n q) ∙ no_bit r below ∙ sym (ne_eqb i 0 (λ e. omega arith))
 
-first_bit : (b : List ℕ) (n i : ℕ) → drop 32 b ≡ 1 ∷ replicate n 0 → bit_in 32 b i ≡ (i == 0)
+pub first_bit : (from : ℕ) (b : List ℕ) (n i : ℕ) → drop from b ≡ 1 ∷ replicate n 0 → bit_in from b i ≡ (i == 0)
 unfolding bit_in
-first_bit b n i bits = ap (λ (x : ℕ). bit_at x (i % 8) == 1) (sym (get_or-drop 32 b (i / 8) 0) ∙ ap (λ (l : List ℕ). get_or l (i / 8) 0) bits) ∙ in_byte n i (i / 8) (i % 8) (omega arith) (omega arith)
+first_bit from b n i bits =
+    ap (λ (x : ℕ). bit_at x (i % 8) == 1) (sym (get_or-drop from b (i / 8) 0) ∙ ap (λ (l : List ℕ). get_or l (i / 8) 0) bits) ∙ in_byte n i (i / 8) (i % 8) (omega arith) (omega arith)
 
 same_tests : (i j k : ℕ) → k ≡ i + j → (i == 0) ≡ (k == j)
 same_tests i j k at = elim (cases_eq i 0) [
@@ -145,7 +146,7 @@ same_tests i j k at = elim (cases_eq i 0) [
 ]
 
 pub root_alone : (g : Request) (b : List ℕ) (n : ℕ) → drop 32 b ≡ 1 ∷ replicate n 0 → (k : ℕ) → table_start_of g ≤ k → is_used g b k ≡ (k == root_place g)
-root_alone g b n bits k from = first_bit b n (k - table_start_of g) bits ∙ same_tests (k - table_start_of g) (root_place g) k (omega arith)
+root_alone g b n bits k from = first_bit 32 b n (k - table_start_of g) bits ∙ same_tests (k - table_start_of g) (root_place g) k (omega arith)
 
 -- ---- the view
 
