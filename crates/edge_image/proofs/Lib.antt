@@ -7,3 +7,6 @@ pub mod TreeLaws
 pub mod FreshLaws
 pub mod AlikeLaws
 pub mod RoomLaws
+pub mod EmptyRootLaws
+pub mod FormattedLaws
+pub mod SameLaws

@@ -4,3 +4,5 @@ pub mod View
 pub mod Opens
 pub mod Room
 pub mod Fresh
+pub mod Formatted
+pub mod Same
