@@ -7,3 +7,5 @@ pub mod TopLaws
 pub mod RunLaws
 pub mod SoundLaws
 pub mod TextLaws
+pub mod MakingLaws
+pub mod OrderLaws

@@ -1,4 +1,3 @@
-pub mod Words
 pub mod Script
 pub mod Feeds
 pub mod Stream
@@ -11,3 +10,5 @@ pub mod Turn
 pub mod Reply
 pub mod Trees
 pub mod Report
+pub mod Orders
+pub mod Making

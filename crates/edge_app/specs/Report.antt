@@ -14,11 +14,15 @@ use Rattle.edge_app.specs.Session.{Ran}
 
 -- the statuses that there are
 abbrev pub is_status : ℕ → Bool
-is_status n = (n == 0) || (n == 2) || (n == 3) || (n == 4) || (n == 5) || (n == 6) || (n == 7) || (n == 8) || (n == 11)
+is_status n = (n == 0) || (n == 2) || (n == 3) || (n == 4) || (n == 5) || (n == 6) || (n == 7) || (n == 8) || (n == 10) || (n == 11)
 
 -- and those of a run over an image
 abbrev pub is_run_status : ℕ → Bool
 is_run_status n = (n == 0) || (n == 3) || (n == 4) || (n == 5) || (n == 6) || (n == 7) || (n == 8) || (n == 11)
+
+-- the statuses of a run alone
+abbrev pub is_run_only : ℕ → Bool
+is_run_only n = (n == 3) || (n == 6) || (n == 7) || (n == 8) || (n == 11)
 
 -- the status and the damage of a session, by how it ended
 abbrev pub EndsBy : How → Report → Type 0
@@ -49,7 +53,7 @@ pub record MeetsDamage (image : Image) (told : Option Damage) : Type 0 where
 
 -- No line was taken up, and nothing was written.
 pub record Unserved (r : Report) (script left before after : List ℕ) : Type 0 where
-  pub status : (r.status ≡ 2) ⊎ (r.status ≡ 5) ⊎ (r.status ≡ 7) ⊎ (r.status ≡ 8)
+  pub status : (r.status ≡ 2) ⊎ (r.status ≡ 5) ⊎ (r.status ≡ 7) ⊎ (r.status ≡ 8) ⊎ (r.status ≡ 10)
   pub commands : r.commands ≡ 0
   pub taken : r.taken ≡ 0
   pub source : left ≡ script
@@ -60,7 +64,7 @@ abbrev pub is_session : ℕ → Bool
 is_session n = (n == 0) || (n == 3) || (n == 4) || (n == 6) || (n == 11)
 
 abbrev pub has_no_session : ℕ → Bool
-has_no_session n = (n == 2) || (n == 7) || (n == 8)
+has_no_session n = (n == 2) || (n == 7) || (n == 8) || (n == 10)
 
 -- ---- the fault line
 

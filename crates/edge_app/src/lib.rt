@@ -2,6 +2,7 @@
 #![tactic(auto)]
 
 mod lines;
+mod making;
 mod mount;
 mod reply;
 mod report;
@@ -11,11 +12,9 @@ mod session;
 mod tests;
 mod top;
 mod volume;
-mod words;
 
 pub use report::{
-    DAMAGED, DEVICE, DONE, LIMIT, MEMORY, NOT_A_VOLUME, Outcome, Report, SINK, SOURCE, WORDS,
+    DAMAGED, DEVICE, DONE, GEOMETRY, LIMIT, MEMORY, NOT_A_VOLUME, Outcome, Report, SINK, SOURCE, WORDS,
     fault_line,
 };
 pub use top::edge;
-pub use words::is_run;

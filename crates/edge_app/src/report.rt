@@ -46,6 +46,8 @@ pub const DAMAGED: u8 = 6;
 pub const MEMORY: u8 = 7;
 /// The image is no volume.
 pub const NOT_A_VOLUME: u8 = 8;
+/// The geometry breaks a limit, or has more blocks than the disk.
+pub const GEOMETRY: u8 = 10;
 /// A limit of the session was reached.
 pub const LIMIT: u8 = 11;
 

@@ -47,8 +47,8 @@ pub struct Ended {
     pub taken: u64,
 }
 
-// Gives all the bytes to a sink.
-fn write_all<K: Sink>(out: &mut K, bytes: &[u8]) -> Result<(), SinkFault>
+/// Gives all the bytes to a sink.
+pub fn write_all<K: Sink>(out: &mut K, bytes: &[u8]) -> Result<(), SinkFault>
     ensures tells { K.tells out.new ≡ K.tells out.old }
     ensures cause { HasCause (K.faults out.old) (K.faults out.new) result }
     ensures done { IsTrue (K.tells out.old) → OnOk result (K.taken out.new ≡ K.taken out.old ++ bytes.now) }

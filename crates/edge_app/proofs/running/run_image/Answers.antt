@@ -80,7 +80,7 @@ returns-clause-all_replies g c = λ done shows tells told t opens.
     whole ∙ ap (λ text. g.K.Sink.taken c.args.out.now ++ text) (sym (text_of_run opens.master.geometry t (directory node.0 0) (lines_of (g.S.Source.left c.args.src.now)) node.1))
 
 pub returns-in_default-clause-text : goal.returns-in_default-clause-text
-returns-in_default-clause-text g c = λ shows tells told t opens. nothing_taken _ t _ c.unserved-in_default.result _ (ap (λ (r : Report). r.commands) c.unserved-in_default.ensures) (λ four. let seven = ap (λ (r : Report). r.status) c.unserved-in_default.ensures in omega arith)
+returns-in_default-clause-text g c = λ shows tells told t opens. nothing_taken _ t _ c.unserved.result _ (ap (λ (r : Report). r.commands) c.unserved.ensures) (λ four. let seven = ap (λ (r : Report). r.status) c.unserved.ensures in omega arith)
 
 pub returns-in-Device-clause-text : goal.returns-in-Device-clause-text
 returns-in-Device-clause-text g c = λ shows tells told t opens. nothing_taken _ t _ c.unserved-in-Device.result _ (ap (λ (r : Report). r.commands) c.unserved-in-Device.ensures) (λ four. let five = ap (λ (r : Report). r.status) c.unserved-in-Device.ensures in omega arith)

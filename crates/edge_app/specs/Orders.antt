@@ -1,0 +1,29 @@
+-- What the words ask for.
+use Rattle.std.specs.Prelude.{◌≡◌, ◌≢◌, ◌⊎◌, ◌<◌, ℕ, List, None}
+use Rattle.edge_base.specs.declared.geometry.Request.{Request}
+use Rattle.edge_base.specs.Places.{bad_geometry}
+use Rattle.edge_words.specs.Words.{Word}
+use Rattle.edge_words.specs.Orders.{Asked, Run, Format, Spells}
+
+-- the words spell `run`
+pub record AsksRun (words : List Word) : Type 0 where
+  pub image : Word
+  pub block_size : ℕ
+  pub spells : Spells words (Run image block_size)
+
+-- the words spell `format` with this geometry
+pub record AsksFormat (words : List Word) (g : Request) : Type 0 where
+  pub image : Word
+  pub spells : Spells words (Format image g)
+
+-- the words spell no `format`
+abbrev pub AsksNoFormat : List Word → Type 0
+AsksNoFormat words = (g : Request) → AsksFormat words g → ⊥
+
+-- the words spell nothing
+abbrev pub AsksNothing : List Word → Type 0
+AsksNothing words = (asked : Asked) → Spells words asked → ⊥
+
+-- A geometry that breaks a limit, or has more blocks than the disk.
+abbrev pub IsUnfit : Request → ℕ → Type 0
+IsUnfit g blocks = (bad_geometry g ≢ None) ⊎ (blocks < g.blocks)
