@@ -15,11 +15,11 @@ record BeginsWith (rest : List Word) (word : Word) : Type 0 where
   are : rest ≡ word ∷ behind
   no_option : is_option word ≡ false
 
-begins : {rest : List Word} {more : List Given} {word : Word} → ¬ (BeginsWithOption rest) → Interleaved rest more (word ∷ []) → BeginsWith rest word
+begins : {rest : List Word} {more : List Given} {word : Word} {others : List Word} → ¬ (BeginsWithOption rest) → Interleaved rest more (word ∷ others) → BeginsWith rest word
 begins stops (option name value is reads) = absurd (stops is)
 begins stops (argument {words = behind} word is_no reads) = record { behind = behind; are = refl; no_option = is_no }
 
-pub first_place : {words rest : List Word} {options : List Given} {word : Word} → SkipsOptions words rest → Interleaved words options (word ∷ [])
+pub first_place : {words rest : List Word} {options : List Given} {word : Word} {others : List Word} → SkipsOptions words rest → Interleaved words options (word ∷ others)
     → (place : ℕ) → place ≡ length words - length rest → IsFirstArgument words place word
 first_place {words} {rest} {options} {word} skips reads place is =
     let first = begins skips.stops (rest_reads skips.skipped reads).1 in
@@ -45,16 +45,22 @@ length-words words rest = simp length-map
 
 -- what is attached for the order that the words spell
 pub need_of : {command : Word} {behind words : List Word} (told : Asked) {place : ℕ} (a : Attached) → words ≡ command ∷ behind → Spells words told
-    → ((options : List Given) (word : Word) → Interleaved behind options (word ∷ []) → IsFirstArgument behind place word)
+    → ((options : List Given) (word : Word) (others : List Word) → Interleaved behind options (word ∷ others) → IsFirstArgument behind place word)
     → a.image ≡ Some (1 + place) → a.block_size ≡ block_size_of told → a.make_blocks ≡ make_blocks_of told
     → (asked : Asked) → Spells words asked → IsNeedOf words asked a
 need_of {command} {behind} {words} told {place} a are spells first image block_size make_blocks asked also =
     let same = one_asked words told asked spells also in
     let reads = reads_image command behind asked (subst (λ (w : List Word). Spells w asked) are also) in
     record {
-      behind = place;
+      place = place;
       image = image;
-      is_image = subst (λ (w : List Word). IsFirstArgument (drop 1 w) place (image_of asked)) (sym are) (first reads.0 (image_of asked) reads.1);
+      is_image = subst (λ (w : List Word). IsFirstArgument (drop 1 w) place (image_of asked)) (sym are) (first reads.0 (image_of asked) [] reads.1);
       block_size = block_size ∙ ap block_size_of same;
       make_blocks = make_blocks ∙ ap make_blocks_of same;
     }
+
+-- words that spell an order say one of the four block sizes
+pub spelled_size : (words : List Word) (asked : Asked) → Spells words asked → IsTrue (is_block_size (block_size_of asked))
+spelled_size [] asked spells = absurd spells
+spelled_size (command ∷ words) (Run image block_size) spells = spells.1.block_size_is.one_of_four
+spelled_size (command ∷ words) (Format image request) spells = spells.1.request_is.block_size.one_of_four

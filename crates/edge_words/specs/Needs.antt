@@ -22,9 +22,9 @@ make_blocks_of (Format image request) = if is_none (bad_geometry request) then S
 
 -- What is attached for words that spell what is asked. The image's name is the first argument behind the command word.
 pub record IsNeedOf (words : List Word) (asked : Asked) (a : Attached) : Type 0 where
-  pub behind : ℕ
-  pub image : a.image ≡ Some (1 + behind)
-  pub is_image : IsFirstArgument (drop 1 words) behind (image_of asked)
+  pub place : ℕ
+  pub image : a.image ≡ Some (1 + place)
+  pub is_image : IsFirstArgument (drop 1 words) place (image_of asked)
   pub block_size : a.block_size ≡ block_size_of asked
   pub make_blocks : a.make_blocks ≡ make_blocks_of asked
 

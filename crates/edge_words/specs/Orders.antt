@@ -42,7 +42,7 @@ pub record SaysBlockSize (options : List Given) (n : ℕ) : Type 0 where
   pub size : SaysOr options (codes "-b") 512 n
   pub one_of_four : IsTrue (is_block_size n)
 
--- The words behind `run`.
+-- The words behind `run` are this image's name and an option that says this block size.
 pub record SpellsRun (words : List Word) (image : Word) (block_size : ℕ) : Type 0 where
   pub options : List Given
   pub parts : HasParts run_options words options image
@@ -57,7 +57,7 @@ pub record SaysRequest (options : List Given) (r : Request) : Type 0 where
   pub direct : SaysOr options (codes "-a") 4 r.direct
   pub indirect : SaysOr options (codes "-i") 32 r.indirect
 
--- The words behind `format`.
+-- The words behind `format` are this image's name and options that say this request.
 pub record SpellsFormat (words : List Word) (image : Word) (request : Request) : Type 0 where
   pub options : List Given
   pub parts : HasParts format_options words options image

@@ -1,4 +1,5 @@
-ghost use Rattle.std.specs.Prelude.{◌≡◌};
+ghost use Rattle.std.specs.Prelude.{◌≡◌, IsTrue};
+ghost use Rattle.edge_base.specs.Sizes.{is_block_size};
 ghost use Rattle.edge_words.specs.Words.{words_of};
 ghost use Rattle.edge_words.specs.Orders.{Asked, Spells, asked_by};
 ghost use Rattle.edge_words.specs.Needs.{IsNeedOf, no_need, make_blocks_of};
@@ -22,6 +23,7 @@ pub struct Attached {
 /// What has to be attached for the words behind the program's name.
 pub fn need(words: &[&str]) -> Attached
     ensures spelled { (asked : Asked) → Spells (words_of words.now) asked → IsNeedOf (words_of words.now) asked result }
+    ensures size { IsTrue (is_block_size result.block_size) }
     ensures refused { ((asked : Asked) → ¬ (Spells (words_of words.now) asked)) → result ≡ no_need }
 {
     match (read_words(words), words) {

@@ -52,9 +52,10 @@ pub fn only_argument<'a>(words: &'a [&'a str]) -> Option<&'a str>
     }
 }
 
-/// The place of the first argument, where there is one and no other.
+/// The place of the first argument, where there is one.
 pub fn first_argument(words: &[&str]) -> usize
-    ensures { (options : List Given) (argument : Word) → Interleaved (words_of words.now) options (argument ∷ []) → IsFirstArgument (words_of words.now) result argument }
+    ensures { (options : List Given) (argument : Word) (others : List Word) → Interleaved (words_of words.now) options (argument ∷ others)
+        → IsFirstArgument (words_of words.now) result argument }
 {
     words.len() - skip_options(words).len()
 }
