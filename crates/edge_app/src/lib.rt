@@ -14,7 +14,7 @@ mod top;
 mod volume;
 
 pub use report::{
-    DAMAGED, DEVICE, DONE, GEOMETRY, LIMIT, MEMORY, NOT_A_VOLUME, Outcome, Report, SINK, SOURCE, WORDS,
-    fault_line,
+    DAMAGED, DEVICE, DONE, GEOMETRY, LIMIT, MEMORY, NOT_A_VOLUME, Outcome, Report, SINK, SOURCE,
+    WORDS, fault_line,
 };
 pub use top::edge;

@@ -1,9 +1,10 @@
 -- The place of the image's name, and what has to be attached.
-use Rattle.std.proofs.Common.{◌≡◌, ℕ, ◌+◌, ◌-◌, false, List, [], ◌∷◌, ◌++◌, length, drop, Some, Bor, refl, sym, ap, ◌∙◌, subst, arith}
+use Rattle.std.proofs.Common.{◌≡◌, ℕ, ◌+◌, ◌-◌, false, List, [], ◌∷◌, ◌++◌, length, drop, Some, Bor, refl, sym, ap, ◌∙◌, subst, arith, IsTrue}
 use Rattle.std.proofs.lemmas.List.{length-append, length-map}
 use Rattle.edge_words.specs.declared.attached.Attached.{Attached}
 use Rattle.edge_words.specs.Words.{Word, Given, Interleaved, option, argument, is_option, words_of}
 use Rattle.edge_words.specs.Reading.{BeginsWithOption, SkipsOptions}
+use Rattle.edge_base.specs.Sizes.{is_block_size}
 use Rattle.edge_words.specs.Orders.{Asked, Run, Format, Spells, image_of, block_size_of}
 use Rattle.edge_words.specs.Needs.{IsFirstArgument, IsNeedOf, make_blocks_of}
 use Rattle.edge_words.proofs.WordLaws.{rest_reads}

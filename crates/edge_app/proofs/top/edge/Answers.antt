@@ -76,7 +76,7 @@ returns-in-Format-clause-format_part g c = λ h asked told four.
 pub returns-in-Format-clause-format_made : goal.returns-in-Format-clause-format_made
 returns-in-Format-clause-format_made g c = λ h asked begun.
     subst (λ (k : Request). Made k c.format_image.result.report.status (g.C.Clock.tells c.args.clock.now) (g.C.Clock.moments c.args.clock.now) (g.C.Clock.moments c.format_image.new.clock) (g.D.Disk.origin c.args.disk) (g.D.Disk.faults c.args.disk)
-        (g.D.Disk.shown c.args.disk) (g.D.Disk.shown c.format_image.result.disk) (g.D.Disk.is_sure c.args.disk) (g.D.Disk.is_sure c.format_image.result.disk) (g.D.Disk.may_hold c.format_image.result.disk)) (same g c h asked) (c.format_image.ensures.made begun)
+    (g.D.Disk.shown c.args.disk) (g.D.Disk.shown c.format_image.result.disk) (g.D.Disk.is_sure c.args.disk) (g.D.Disk.is_sure c.format_image.result.disk) (g.D.Disk.may_hold c.format_image.result.disk)) (same g c h asked) (c.format_image.ensures.made begun)
 
 pub returns-in-Format-clause-format_complete : goal.returns-in-Format-clause-format_complete
 returns-in-Format-clause-format_complete g c = λ h asked fit no_sink no_device. is_done c.format_image.result.report.status c.format_image.ensures.status
