@@ -7,3 +7,4 @@ pub mod TreeLaws
 pub mod FreshLaws
 pub mod AlikeLaws
 pub mod RoomLaws
+pub mod NodeLaws
