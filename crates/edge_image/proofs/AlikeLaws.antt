@@ -1,5 +1,5 @@
 -- What an image opens to depends on its own blocks alone.
-use Rattle.std.proofs.Common.{◌≡◌, ℕ, zero, suc, ◌+◌, ◌-◌, ◌<◌, ◌≤◌, ◌&&◌, ◌||◌, not, Bool, true, false, cond, List, Option, Some, None, Ok, Err, refl, sym, ap, ◌∙◌, subst, arith}
+use Rattle.std.proofs.Common.{◌≡◌, ℕ, zero, suc, ◌+◌, ◌-◌, ◌<◌, ◌≤◌, ◌||◌, not, Bool, true, false, cond, List, Option, Some, None, Ok, Err, refl, sym, ap, ◌∙◌, subst, arith}
 use Rattle.std.specs.Prelude.{Result, nat_lt, nat_le}
 use Rattle.std.specs.List.{list_any, range_with_len}
 use Rattle.std.proofs.lemmas.Bool.{and_parts, leb-true, ltb-true}
@@ -14,7 +14,7 @@ use Rattle.edge_base.specs.Spelling.{master_in, metaroot_in}
 use Rattle.edge_disk.specs.Image.{Image}
 use Rattle.edge_store.specs.View.{View, is_allocable}
 use Rattle.edge_model.specs.Tree.{Tree}
-use Rattle.edge_image.specs.Image.{Live, live_among, live_of, is_used, spells_imap, imap_block_of, has_bad_imap, free_blocks_of, free_inodes_of}
+use Rattle.edge_image.specs.Image.{Live, greater, live_among, live_of, is_used, spells_imap, imap_block_of, has_bad_imap, free_blocks_of, free_inodes_of}
 use Rattle.edge_image.specs.Ready.{IsMountable}
 use Rattle.edge_image.specs.View.{inode_at, inode_by, is_number, inode_of, block_told, block_of, view_of}
 use Rattle.edge_image.specs.Opens.{OpensTo, StandsFor, IsAlike}
@@ -23,14 +23,17 @@ use Rattle.edge_image.proofs.ReasonLaws.{without_a_reason, mountable}
 
 -- ---- the live metaroot
 
+abbrev place_or : ℕ → Option Live → ℕ
+place_or n None = n
+place_or n (Some live) = live.place
+
+greater_below : (one two : Metaroot) → (greater one two).place < 3
+greater_below one two = grind arith
+
 place_below : (one two : Result Metaroot NodeFault) (live : Live) → live_among one two ≡ Some live → live.place < 3
-place_below (Ok one) (Ok two) live is =
-    elim (nat_lt one.sequence two.sequence) as (λ t. Some (cond t (record { place = 2; root = two }) (record { place = 1; root = one })) ≡ Some live → live.place < 3) [
-      | true ↦ λ e. let h : record { place = 2; root = two } ≡ live = cc in let p = ap (λ (l : Live). l.place) h in omega arith
-      | false ↦ λ e. let h : record { place = 1; root = one } ≡ live = cc in let p = ap (λ (l : Live). l.place) h in omega arith
-    ] is
-place_below (Ok one) (Err fault) live is = let h : record { place = 1; root = one } ≡ live = cc in let p = ap (λ (l : Live). l.place) h in omega arith
-place_below (Err fault) (Ok two) live is = let h : record { place = 2; root = two } ≡ live = cc in let p = ap (λ (l : Live). l.place) h in omega arith
+place_below (Ok one) (Ok two) live is = let h : greater one two ≡ live = cc in subst (λ (l : Live). l.place < 3) h (greater_below one two)
+place_below (Ok one) (Err fault) live is = let p = ap (place_or 0) is in omega arith
+place_below (Err fault) (Ok two) live is = let p = ap (place_or 0) is in omega arith
 place_below (Err fault) (Err other) live is = absurd (let wrong : None ≡ Some live = is in cc)
 
 -- ---- imap nodes
@@ -79,16 +82,19 @@ module _ (g : Request) (image other : Image) (alike : IsAlike image other) (fits
   same_block b below = alike.same b (omega arith)
 
   inode_by_alike : (n : ℕ) (first second : Bool) → is_number g n ≡ true → inode_by g other n first second ≡ inode_by g image n first second
-  inode_by_alike n true true is = refl
-  inode_by_alike n true false is = ap (λ b. Some (inode_at g b)) (same_block (inode_place_of g n false) (place_inside g n false room is))
-  inode_by_alike n false true is = ap (λ b. Some (inode_at g b)) (same_block (inode_place_of g n true) (place_inside g n true room is))
-  inode_by_alike n false false is = refl
+  inode_by_alike n first second is =
+      let at_first = ap (inode_at g) (same_block (inode_place_of g n false) (place_inside g n false room is)) in
+      let at_second = ap (inode_at g) (same_block (inode_place_of g n true) (place_inside g n true room is)) in
+      elim first as (λ t. inode_by g other n t second ≡ inode_by g image n t second) [
+        | true ↦ elim second as (λ t. inode_by g other n true t ≡ inode_by g image n true t) [ true ↦ cc | false ↦ cc ]
+        | false ↦ elim second as (λ t. inode_by g other n false t ≡ inode_by g image n false t) [ true ↦ cc | false ↦ cc ]
+      ]
 
   inode_alike : (root : List ℕ) (n : ℕ) → inode_of g other root n ≡ inode_of g image root n
   inode_alike root n = cond_alike (is_number g n) _ _ (inode_by_alike n (is_used g root (inode_place_of g n false)) (is_used g root (inode_place_of g n true)))
 
   block_alike : (root : List ℕ) (b : ℕ) → block_of g other root b ≡ block_of g image root b
-  block_alike root b = cond_alike (is_allocable g b && is_used g root b) _ _ (λ is. ap (λ x. Some (block_told g x)) (same_block b (block_inside g b room (and_parts (is_allocable g b) (is_used g root b) is).0)))
+  block_alike root b = cond_alike _ _ _ (λ is. ap (λ x. Some (block_told g x)) (same_block b (block_inside g b room (and_parts (is_allocable g b) _ is).0)))
 
   view_alike : (live : Live) → other.block live.place ≡ image.block live.place → view_of g other live ≡ view_of g image live
   unfolding view_of

@@ -10,3 +10,4 @@ pub mod RoomLaws
 pub mod EmptyRootLaws
 pub mod FormattedLaws
 pub mod SameLaws
+pub mod NodeLaws

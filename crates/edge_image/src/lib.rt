@@ -14,7 +14,9 @@ ghost use Rattle.edge_base.specs.Spelling.{master_in};
 ghost use Rattle.edge_disk.specs.Image.{Image};
 ghost use Rattle.edge_store.specs.View.{View, is_used, count_allocable};
 ghost use Rattle.edge_store.specs.Counted.{Occupy};
+ghost use Rattle.edge_store.specs.Placed.{HasNode};
 ghost use Rattle.edge_model.specs.Tree.{Tree, only_root, tree_positions};
+ghost use Rattle.edge_model.specs.Rules.{IsTree};
 ghost use Rattle.edge_image.specs.Image.{Live, live_of, used_place, place_of, reason_of, head_of, root_number};
 ghost use Rattle.edge_image.specs.Ready.{IsReady, IsLive, IsMountable};
 ghost use Rattle.edge_image.specs.View.{view_of};
@@ -72,6 +74,11 @@ pub fn alike_images_open_alike()
 /// A fresh image opens to the tree that has an empty root directory alone.
 pub fn fresh_image_opens()
     ensures { OpensTo fresh_image only_root }
+{}
+
+/// A view that stands for a tree has each node of it, taken by itself.
+pub fn a_view_has_each_node()
+    ensures { (g : Request) (v : View) (t : Tree) (n : ℕ) (node : Node) → IsTree g t → StandsFor g v t → t n ≡ Some node → HasNode g v n node }
 {}
 
 /// A view that stands for a tree uses as many blocks as the tree has positions: each position occupies
