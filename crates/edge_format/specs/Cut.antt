@@ -1,5 +1,5 @@
 -- What a cut may leave of a disk that is being formatted.
-use Rattle.std.specs.Prelude.{◌≡◌, ◌≢◌, ◌⊎◌, ℕ, List, Ok}
+use Rattle.std.specs.Prelude.{◌≢◌, ◌⊎◌, ℕ, List, Ok}
 use Rattle.edge_base.specs.declared.geometry.Request.{Request}
 use Rattle.edge_base.specs.declared.node.Master.{Master}
 use Rattle.edge_base.specs.Spelling.{master_in}
