@@ -4,3 +4,6 @@ pub mod ProgressLaws
 pub mod CountLaws
 pub mod MountLaws
 pub mod TopLaws
+pub mod RunLaws
+pub mod SoundLaws
+pub mod TextLaws

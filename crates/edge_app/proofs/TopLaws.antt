@@ -46,7 +46,7 @@ ready_root image g root head ready volume =
     sym (ap (λ (r : Request). head_of r image (image.block ready.live.place) root_number) geometry ∙ ap (λ b. head_of g image b root_number) bytes)
     ∙ ap (head_by image) place ∙ ap (head_told ready.place) ready.spells
 
-root_then : (image image_then : Image) → image_then ≡ image → (g : Request) (root : List ℕ) (head : Head) → IsReady image head → IsVolume image g root → head_of g image_then root root_number ≡ Ok head
+pub root_then : (image image_then : Image) → image_then ≡ image → (g : Request) (root : List ℕ) (head : Head) → IsReady image head → IsVolume image g root → head_of g image_then root root_number ≡ Ok head
 root_then image image_then same g root head ready volume = ap (λ i. head_of g i root root_number) same ∙ ready_root image g root head ready volume
 
 -- ---- fronts of all the replies

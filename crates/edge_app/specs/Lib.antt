@@ -9,4 +9,5 @@ pub mod Part
 pub mod Session
 pub mod Turn
 pub mod Reply
+pub mod Trees
 pub mod Report

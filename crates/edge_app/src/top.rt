@@ -1,13 +1,16 @@
 ghost use Rattle.std.specs.Prelude.{◌≡◌, ◌<◌, ◌≤◌, ◌⊎◌, ◌↔◌, ◌++◌, [], ℕ, map, take, IsTrue, IfOk, None, Some, false, vec_len};
 ghost use Rattle.edge_base.specs.Faults.{Rose};
 ghost use Rattle.edge_base.specs.declared.node.Head.{Head};
-ghost use Rattle.edge_disk.specs.Image.{shown_image};
+ghost use Rattle.edge_disk.specs.Image.{Image, shown_image, IsPermitted, IsPlain};
+ghost use Rattle.edge_model.specs.Tree.{Tree};
 ghost use Rattle.edge_image.specs.Image.{reason_of};
 ghost use Rattle.edge_image.specs.Ready.{IsReady};
+ghost use Rattle.edge_image.specs.Opens.{OpensTo, IsSound};
 ghost use Rattle.edge_app.specs.Mount.{IsUntouched};
 ghost use Rattle.edge_app.specs.Report.{is_status, is_session, has_no_session, MeetsDamage, Served, Unserved};
 ghost use Rattle.edge_app.specs.Script.{HoldsLines, lines_of, replies_to, IsInLimits};
 ghost use Rattle.edge_app.specs.Stream.{pending, used_of, ended_of};
+ghost use Rattle.edge_app.specs.Trees.{run_text, TookText};
 ghost use Rattle.edge_app.specs.Words.{IsRun};
 
 use crate::lines::LineReader;
@@ -106,6 +109,16 @@ pub fn edge<S: Source, K: Sink, D: Disk>(
         → IsRun (map (λ word. word.now) words.now) → IsInLimits (S.left src.old)
         → (Rose (S.faults src.old) (S.faults src.new) → ⊥) → (Rose (K.faults out.old) (K.faults out.new) → ⊥) → (Rose (D.faults disk) (D.faults result.disk) → ⊥)
         → (result.report.status ≡ 0) ⊎ (result.report.status ≡ 7) }
+
+    // The same where the image opens to a tree.
+    ensures replies { IsTrue (D.origin disk).shows → IsTrue (S.tells src.old) → IsTrue (K.tells out.old) → (t : Tree) (opens : OpensTo (shown_image (D.origin disk) (D.shown disk)) t)
+        → (n : ℕ) × (K.taken out.new ≡ K.taken out.old ++ take n (run_text opens.master.geometry t (lines_of (S.left src.old)))) }
+    ensures all_replies { result.report.status ≡ 0 → IsTrue (D.origin disk).shows → IsTrue (S.tells src.old) → IsTrue (K.tells out.old) → (t : Tree) (opens : OpensTo (shown_image (D.origin disk) (D.shown disk)) t)
+        → K.taken out.new ≡ K.taken out.old ++ run_text opens.master.geometry t (lines_of (S.left src.old)) }
+    ensures text { IsTrue (D.origin disk).shows → IsTrue (S.tells src.old) → IsTrue (K.tells out.old) → (t : Tree) (opens : OpensTo (shown_image (D.origin disk) (D.shown disk)) t)
+        → TookText opens.master.geometry t (S.left src.old) result.report (K.taken out.old) (K.taken out.new) }
+    ensures opens { (t : Tree) → IsSound (D.origin disk) (D.shown disk) (D.is_sure disk) (D.faults disk) t
+        → (image : Image) → IsPermitted (D.origin result.disk) (D.may_hold result.disk) (D.is_sure result.disk) image → IsPlain (D.origin result.disk) (D.may_hold result.disk) image → OpensTo image t }
 {
     if !is_run(words) {
         return Outcome {

@@ -1,0 +1,5 @@
+pub mod SpellingLaws
+pub mod SetLaws
+pub mod PositionLaws
+pub mod CountLaws
+pub mod ChainLaws

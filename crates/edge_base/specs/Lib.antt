@@ -6,6 +6,8 @@ pub mod Bytes
 pub mod Spelling
 pub mod Refusals
 pub mod Positions
+pub mod Counting
+pub mod Chains
 pub mod Slots
 pub mod Nodes
 pub mod NodeRules

@@ -1,9 +1,11 @@
 -- Where things lie on the image of a geometry.
-use Rattle.std.specs.Prelude.{◌≡◌, ℕ, ◌+◌, ◌-◌, ◌*◌, ◌/◌, ◌%◌, ◌≤◌, Bool, true, ◌==◌, ◌||◌, not, nat_lt, if◌then◌else◌, Option, Some, None, IsTrue}
+use Rattle.std.specs.Prelude.{◌≡◌, ℕ, ◌+◌, ◌-◌, ◌*◌, ◌/◌, ◌%◌, ◌<◌, ◌≤◌, Bool, true, ◌==◌, ◌||◌, not, nat_lt, if◌then◌else◌, Option, Some, None, IsTrue}
 use Rattle.edge_base.specs.Sizes.{is_block_size, fits_inline, node_bits, pairs_for, place_of}
 use Rattle.edge_base.specs.declared.geometry.BadGeometry.{BadGeometry}
 use Rattle.edge_base.specs.declared.geometry.BadGeometry.TheVariants.{BlockSize, Blocks, Inodes, NameMax, Pointers, Room, External}
 use Rattle.edge_base.specs.declared.geometry.Request.{Request}
+use Rattle.edge_base.specs.declared.way.Way.{Way}
+use Rattle.edge_base.specs.declared.way.Way.TheVariants.{Direct, Single, Double}
 
 -- the entries of an inode
 abbrev pub entries_of : Request → ℕ
@@ -45,6 +47,21 @@ allocable_of g = g.blocks - first_allocable_of g
 -- the greatest number of data blocks of a file
 abbrev pub max_blocks_of : Request → ℕ
 max_blocks_of g = g.direct + g.indirect * pointers_of g + (entries_of g - g.direct - g.indirect) * (pointers_of g * pointers_of g)
+
+-- the way to data block i
+abbrev pub way_of : Request → ℕ → Way
+way_of g i =
+    let single = i - g.direct in
+    let double = single - g.indirect * pointers_of g in
+    if nat_lt i g.direct then Direct i
+    else if nat_lt single (g.indirect * pointers_of g) then Single (g.direct + single / pointers_of g) (single % pointers_of g)
+    else Double (g.direct + g.indirect + double / (pointers_of g * pointers_of g)) (double % (pointers_of g * pointers_of g) / pointers_of g) (double % pointers_of g)
+
+-- The entry and the places of a way lie within their nodes.
+abbrev pub IsWithinNodes : Request → Way → Type 0
+IsWithinNodes g (Direct entry) = entry < entries_of g
+IsWithinNodes g (Single entry place) = (entry < entries_of g) × (place < pointers_of g)
+IsWithinNodes g (Double entry outer place) = (entry < entries_of g) × (outer < pointers_of g) × (place < pointers_of g)
 
 abbrev pub max_size_of : Request → ℕ
 max_size_of g = max_blocks_of g * g.block_size

@@ -1,6 +1,6 @@
 -- Spelling: which bytes of a block say which record. A field is stated by the number that its bytes read as.
 -- docs/FORMAT.md has the same tables in words.
-use Rattle.std.specs.Prelude.{◌≡◌, ℕ, ◌+◌, ◌-◌, ◌*◌, ◌<◌, ◌≤◌, ◌==◌, ◌||◌, ◌&&◌, not, is_some, min, nat_lt, Bool, false, if◌then◌else◌, List, drop, length, slice_index, Result, Ok, Err}
+use Rattle.std.specs.Prelude.{◌≡◌, ℕ, ◌+◌, ◌-◌, ◌*◌, ◌<◌, ◌≤◌, ◌==◌, ◌||◌, ◌&&◌, not, is_some, nat_le, nat_lt, min, Bool, false, if◌then◌else◌, List, drop, length, slice_index, Result, Ok, Err}
 use Rattle.edge_base.specs.declared.geometry.Request.{Request}
 use Rattle.edge_base.specs.declared.node.Head.{Head}
 use Rattle.edge_base.specs.declared.node.Master.{Master}
@@ -169,18 +169,26 @@ pub record SpellsPointer (g : Request) (double : Bool) (sequence owner : ℕ) (e
   pub owner_below : owner < 2 + g.inodes
   pub entries_are : numbers_at 20 (pointers_of g) b ≡ entries
 
--- what a pointer node says
+-- what a pointer node says: the number of the inode that has it, and where it leads
 pub record PointerNode : Type 0 where
   pub owner : ℕ
   pub entries : List ℕ
+
+-- whether a pointer node may have this owner
+abbrev pub is_owner : Request → ℕ → Bool
+is_owner g owner = nat_le 2 owner && nat_lt owner (2 + g.inodes)
+
+-- the fields of a pointer node, whether or not the block spells one
+unfoldable pub pointer_fields : Request → List ℕ → PointerNode
+pointer_fields g b = record { owner = number_at 16 4 b; entries = numbers_at 20 (pointers_of g) b }
 
 -- The pointer node that a block spells, or the first field in rising order that breaks its rule.
 unfoldable pub pointer_in : Request → Bool → List ℕ → Result PointerNode NodeFault
 pointer_in g double b =
     if not (signature_in b == pointer_signature double) then Err WrongSignature
     else if not (number_at 4 4 b == check_word_of (drop 8 b)) then Err WrongWord
-    else if nat_lt (number_at 16 4 b) 2 || nat_lt (1 + g.inodes) (number_at 16 4 b) then Err (WrongField 16)
-    else Ok (record { owner = number_at 16 4 b; entries = numbers_at 20 (pointers_of g) b })
+    else if not (is_owner g (number_at 16 4 b)) then Err (WrongField 16)
+    else Ok (pointer_fields g b)
 
 -- ---- none of them
 

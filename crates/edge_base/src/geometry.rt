@@ -1,6 +1,7 @@
 ghost use Rattle.std.specs.Prelude.{◌≡◌, ℕ, ◌+◌, ◌-◌, ◌*◌, ◌^◌, ◌<◌, ◌≤◌, false, None, Some, MatchResult, IsTrue};
 ghost use Rattle.edge_base.specs.Sizes.{is_block_size, fits_inline, node_bits, pairs_for, place_of};
 
+use crate::way::Way;
 use std::marker::Model;
 
 /// A geometry as it is asked for.
@@ -54,7 +55,7 @@ impl Model for Geometry {
 }
 
 impl Geometry {
-    ghost use Rattle.edge_base.specs.Places.{bad_geometry, is_inline_of, imap_nodes_of, HaveRoom, imap_place_of, table_start_of, inode_place_of, first_allocable_of, allocable_of, max_blocks_of, max_size_of, IsGeometry, IsWithinLimits};
+    ghost use Rattle.edge_base.specs.Places.{bad_geometry, is_inline_of, imap_nodes_of, HaveRoom, imap_place_of, table_start_of, inode_place_of, first_allocable_of, allocable_of, max_blocks_of, max_size_of, way_of, IsWithinNodes, IsGeometry, IsWithinLimits};
 
     /// The geometry of a request, or the first limit that it breaks.
     #[tactic(auto, unfolding(crate::specs::Places::bad_geometry))]
@@ -178,6 +179,32 @@ impl Geometry {
     {
         let block_size = self.request.block_size;
         u64::from(self.max_blocks()) * u64::from(block_size)
+    }
+
+    /// The way to a data block.
+    pub fn way(&self, index: u32) -> Way
+        requires { index < max_blocks_of self.now }
+        ensures way { result ≡ way_of self.now index }
+        ensures within { IsWithinNodes self.now result }
+    {
+        let r = self.request;
+        let pointers = (r.block_size - 20) / 4;
+        if index < r.direct {
+            return Way::Direct { entry: index };
+        }
+        let single = index - r.direct;
+        if single < r.indirect * pointers {
+            return Way::Single {
+                entry: r.direct + single / pointers,
+                place: single % pointers,
+            };
+        }
+        let double = single - r.indirect * pointers;
+        Way::Double {
+            entry: r.direct + r.indirect + double / (pointers * pointers),
+            outer: double % (pointers * pointers) / pointers,
+            place: double % pointers,
+        }
     }
 }
 

@@ -6,13 +6,21 @@
 mod damage;
 mod form;
 mod geometry;
+mod laws;
 mod node;
 mod refusal;
 #[cfg(test)]
 mod tests;
+mod way;
 
 pub use damage::{Damage, DamageKind};
 pub use form::Form;
 pub use geometry::{BadGeometry, Geometry, Request};
+pub use laws::{
+    fewer_members_count_no_more, numbers_count_as_positions, position_counts,
+    positions_are_on_chains, reads_the_spelled_pointer_node, same_members_count_the_same,
+    same_position_is_equality,
+};
 pub use node::{Head, Master, Metaroot, NodeFault, NodeType};
 pub use refusal::Refusal;
+pub use way::Way;

@@ -1,4 +1,4 @@
-use crate::{BadGeometry, DamageKind, Geometry, Refusal, Request};
+use crate::{BadGeometry, DamageKind, Geometry, Refusal, Request, Way};
 
 // Bytes of a block, blocks, inodes, bytes of a name, direct entries and indirect entries.
 fn request(asked: [u32; 6]) -> Request {
@@ -69,6 +69,38 @@ fn tells_the_places(rt: HostRuntime) {
         assert!(rt; geometry.is_inline(), "{asked:?}");
         assert_eq!(rt; places_of(&geometry), places, "{asked:?}");
         assert_eq!(rt; geometry.max_size(), size, "{asked:?}");
+    }
+}
+
+fn single(entry: u32, place: u32) -> Way {
+    Way::Single { entry, place }
+}
+
+fn double(entry: u32, outer: u32, place: u32) -> Way {
+    Way::Double {
+        entry,
+        outer,
+        place,
+    }
+}
+
+#[test]
+fn tells_the_way_to_a_block(rt: HostRuntime) {
+    let told: [(u32, Way); 7] = [
+        (3, Way::Direct { entry: 3 }),
+        (4, single(4, 0)),
+        (3939, single(35, 122)),
+        (3940, double(36, 0, 0)),
+        (4063, double(36, 1, 0)),
+        (19_069, double(37, 0, 0)),
+        (1_274_775, double(119, 122, 122)),
+    ];
+    let geometry = Geometry::checked(request([512, 64, 8, 28, 4, 32]));
+    assert!(rt; geometry.is_ok());
+    let Ok(geometry) = geometry else { return };
+    for (index, way) in told {
+        assert!(rt; index < geometry.max_blocks(), "{index}");
+        assert_eq!(rt; geometry.way(index), way, "{index}");
     }
 }
 

@@ -1,13 +1,12 @@
 -- The data blocks of a node determine its bytes or its slots.
-use Rattle.std.proofs.Common.{◌≡◌, ℕ, zero, suc, ◌+◌, ◌-◌, ◌*◌, ◌/◌, ◌%◌, ◌<◌, ◌≤◌, ◌==◌, ◌||◌, inl, inr, Bool, true, false, List, [], ◌∷◌, ◌++◌, length, get_or, take, drop, replicate, Option, Some, None, refl, sym, ap, ◌∙◌, subst, arith, min}
-use Rattle.std.specs.Prelude.{slice_index_or, slice_index}
-use Rattle.std.specs.List.{list_any, flat_map}
+use Rattle.std.proofs.Common.{◌≡◌, ℕ, zero, suc, ◌+◌, ◌-◌, ◌*◌, ◌/◌, ◌%◌, ◌<◌, ◌≤◌, ◌==◌, ◌||◌, inl, inr, Bool, true, false, List, [], ◌∷◌, ◌++◌, length, get_or, take, drop, replicate, Some, None, refl, sym, ap, ◌∙◌, subst, arith}
+use Rattle.std.specs.List.{list_any}
 use Rattle.std.proofs.Math.Nat.{le-div_iff_mul-le}
-use Rattle.std.proofs.lemmas.Bool.{cases_lt, cases_Bool, eq-eqb, ne_eqb, or_from, false_from_ne_true}
-use Rattle.std.proofs.lemmas.List.{length-take, length-drop, get_or-take, get_or-drop, get_or_past, get_or_append_left, get_or-append_right, ext_get_or}
+use Rattle.std.proofs.lemmas.Bool.{cases_lt, cases_Bool, eq-eqb, ne_eqb, or_from}
+use Rattle.std.proofs.lemmas.List.{length-take, get_or-take, get_or-drop, get_or_past, get_or_append_left, get_or-append_right, ext_get_or}
 use Rattle.edge_base.specs.declared.geometry.Request.{Request}
-use Rattle.edge_base.specs.Slots.{Entry, Slots, pieces, slots_in_block, slot_blocks, slot_bytes, slots_of_block, trimmed}
-use Rattle.edge_base.specs.Nodes.{Node, file, directory, marked_from, padded, block_of}
+use Rattle.edge_base.specs.Slots.{Slots, pieces, slots_in_block, slot_blocks, slots_of_block}
+use Rattle.edge_base.specs.Nodes.{file, directory, marked_from, block_of}
 use Rattle.edge_base.specs.NodeRules.{IsFile, IsDirectory, IsEntry}
 use Rattle.edge_image.proofs.SlotLaws.{AreSlots, IsSlot, zeros_read, filled, same_slots, same_trimmed}
 
@@ -82,7 +81,7 @@ block_slots : (g : Request) (slots : Slots) (i : ℕ) → AreSlots g slots → A
 block_slots g slots i good k = elim (cases_lt k (slots_in_block g)) [
   | inl inside ↦ subst (IsSlot g) (sym (slot_in_block g slots i k inside)) (good (i * slots_in_block g + k))
   | inr past ↦ subst (IsSlot g) (sym (get_or_past (slots_of_block g slots i) k None (omega (arith, length-take (slots_in_block g) (drop (i * slots_in_block g) slots)))))
-    (λ e is. absurd (let wrong : None ≡ Some e = is in cc))
+      (λ e is. absurd (let wrong : None ≡ Some e = is in cc))
 ]
 
 -- Directories with as many blocks, and the same ones, have the same slots.

@@ -1,16 +1,16 @@
 -- What the geometry of a master says of its blocks.
-use Rattle.std.proofs.Common.{◌≡◌, ℕ, ◌+◌, ◌-◌, ◌*◌, ◌/◌, ◌%◌, ◌<◌, ◌≤◌, ◌==◌, ◌||◌, ◌⊎◌, inl, inr, not, Bool, true, false, cond, List, length, drop, Option, Some, None, Ok, Err, refl, sym, ap, ◌∙◌, subst, arith}
+use Rattle.std.proofs.Common.{◌≡◌, ℕ, ◌+◌, ◌-◌, ◌/◌, ◌%◌, ◌<◌, ◌≤◌, ◌==◌, ◌||◌, inl, inr, not, Bool, true, false, cond, List, length, drop, Option, Some, None, Ok, Err, refl, sym, ap, ◌∙◌, arith}
 use Rattle.std.specs.Prelude.{Result, nat_lt, is_some}
 use Rattle.std.proofs.Math.Nat.{le-div_iff_mul-le}
 use Rattle.std.proofs.lemmas.Bool.{or_cases, or_parts, eqb-true, ltb-false, not-false}
 use Rattle.edge_base.specs.declared.geometry.BadGeometry.{BadGeometry}
-use Rattle.edge_base.specs.declared.geometry.BadGeometry.TheVariants.{BlockSize, Blocks, Inodes, NameMax}
+use Rattle.edge_base.specs.declared.geometry.BadGeometry.TheVariants.{BlockSize, Blocks, Inodes, NameMax, Pointers, Room}
 use Rattle.edge_base.specs.declared.geometry.Request.{Request}
 use Rattle.edge_base.specs.declared.node.Master.{Master}
 use Rattle.edge_base.specs.declared.node.NodeFault.{NodeFault}
 use Rattle.edge_base.specs.declared.node.NodeFault.TheVariants.{WrongSignature, WrongWord, WrongField}
 use Rattle.edge_base.specs.Sizes.{is_block_size}
-use Rattle.edge_base.specs.Places.{bad_geometry}
+use Rattle.edge_base.specs.Places.{bad_geometry, entries_of, first_allocable_of, allocable_of}
 use Rattle.edge_base.specs.Slots.{slots_in_block}
 use Rattle.edge_base.specs.Word.{check_word_of}
 use Rattle.edge_base.specs.Bytes.{number_at, signature_in, is_zero}
@@ -20,6 +20,7 @@ pub record IsUsable (g : Request) : Type 0 where
   pub some_bytes : 0 < g.block_size
   pub some_slots : 0 < slots_in_block g
   pub few_inodes : g.inodes ≤ 65536
+  pub room : first_allocable_of g ≤ g.blocks
 
 -- ---- limits
 
@@ -42,6 +43,9 @@ least_size n e = elim (or_cases ((n == 512) || (n == 1024) || (n == 2048)) (n ==
 some_slot : (size name_max : ℕ) → 512 ≤ size → name_max ≤ 252 → 0 < size / (4 + name_max)
 some_slot size name_max long short = (le-div_iff_mul-le {k = 4 + name_max} {x = 1} {y = size} (omega arith)).1 (omega arith)
 
+behind : (blocks first : ℕ) → 3 ≤ blocks - first → first ≤ blocks
+behind blocks first some = omega arith
+
 limits : (g : Request) → bad_geometry g ≡ None → IsUsable g
 unfolding bad_geometry
 limits g e =
@@ -52,7 +56,9 @@ limits g e =
     let long = least_size g.block_size (not-false (is_block_size g.block_size) size.0) in
     let few = ltb-false 65536 g.inodes (or_parts (g.inodes == 0) (nat_lt 65536 g.inodes) inodes.0).1 in
     let short = ltb-false 252 g.name_max (or_parts (nat_lt g.name_max 12) (nat_lt 252 g.name_max) (or_parts (nat_lt g.name_max 12 || nat_lt 252 g.name_max) (not (g.name_max % 4 == 0)) names.0).0).1 in
-    record { some_bytes = omega arith; some_slots = some_slot g.block_size g.name_max long short; few_inodes = few }
+    let pointers = kept ((g.direct == 0) || nat_lt (entries_of g) (g.direct + g.indirect)) Pointers _ names.1 in
+    let room = ltb-false (allocable_of g) 3 (kept (nat_lt (allocable_of g) 3) Room _ pointers.1).0 in
+    record { some_bytes = omega arith; some_slots = some_slot g.block_size g.name_max long short; few_inodes = few; room = behind g.blocks (first_allocable_of g) room }
 
 -- ---- a master
 

@@ -5,6 +5,7 @@ pub mod SlotLaws
 pub mod BlockLaws
 pub mod TreeLaws
 pub mod FreshLaws
+pub mod AlikeLaws
+pub mod RoomLaws
 pub mod EmptyRootLaws
 pub mod FormattedLaws
-pub mod SameLaws

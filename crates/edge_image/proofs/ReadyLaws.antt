@@ -1,5 +1,5 @@
 -- An image that opens to a tree is ready.
-use Rattle.std.proofs.Common.{◌≡◌, ◌==◌, ◌&&◌, ℕ, Bool, true, false, cond, List, Option, Some, None, Ok, Err, refl, sym, ap, ◌∙◌}
+use Rattle.std.proofs.Common.{◌≡◌, ℕ, Bool, true, false, cond, List, Some, None, Ok, Err, refl}
 use Rattle.std.specs.Prelude.{Result}
 use Rattle.edge_base.specs.declared.geometry.Request.{Request}
 use Rattle.edge_base.specs.declared.node.Head.{Head}
@@ -8,11 +8,11 @@ use Rattle.edge_base.specs.Nodes.{Node}
 use Rattle.edge_base.specs.Places.{inode_place_of}
 use Rattle.edge_base.specs.Spelling.{inode_in}
 use Rattle.edge_disk.specs.Image.{Image}
-use Rattle.edge_store.specs.View.{Inode, whole, broken}
+use Rattle.edge_store.specs.View.{whole, broken}
 use Rattle.edge_model.specs.Tree.{Tree}
-use Rattle.edge_image.specs.Image.{Live, is_used, used_place, root_number}
+use Rattle.edge_image.specs.Image.{Live, is_used, used_place}
 use Rattle.edge_image.specs.Ready.{IsReady}
-use Rattle.edge_image.specs.View.{inode_told, inode_at, inode_by, is_number, inode_of, view_of}
+use Rattle.edge_image.specs.View.{inode_told, inode_at, inode_by, is_number, view_of}
 use Rattle.edge_image.specs.Opens.{OpensTo, head_of_node, HasHead}
 
 -- where a whole inode is told, its head is

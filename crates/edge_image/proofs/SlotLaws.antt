@@ -1,11 +1,11 @@
 -- The bytes of a slot determine it.
-use Rattle.std.proofs.Common.{◌≡◌, ℕ, zero, suc, ◌+◌, ◌-◌, ◌*◌, ◌^◌, ◌<◌, ◌≤◌, ◌==◌, ◌&&◌, ◌||◌, not, inl, inr, Bool, true, false, List, [], ◌∷◌, ◌++◌, length, get_or, take, drop, replicate, Option, Some, None, refl, sym, ap, ◌∙◌, subst, arith, append_assoc}
-use Rattle.std.specs.List.{All, list_any, filter_map, flat_map}
+use Rattle.std.proofs.Common.{◌≡◌, ℕ, zero, suc, ◌+◌, ◌-◌, ◌*◌, ◌^◌, ◌<◌, ◌≤◌, ◌==◌, ◌&&◌, ◌||◌, not, true, false, List, [], ◌∷◌, ◌++◌, length, get_or, drop, replicate, Option, Some, None, refl, sym, ap, ◌∙◌, subst, arith, append_assoc}
+use Rattle.std.specs.List.{All, list_any, flat_map}
 use Rattle.std.specs.Str.{bytes_eq}
-use Rattle.std.proofs.lemmas.Bool.{cases_lt, and_parts, or_parts, not-true, leb-true}
-use Rattle.std.proofs.lemmas.List.{length-append, length-replicate, get_or_append_left, get_or-append-add, get_or-append_right, get_or_past, ext_get_or, drop_at}
+use Rattle.std.proofs.lemmas.Bool.{and_parts, or_parts, not-true, leb-true}
+use Rattle.std.proofs.lemmas.List.{length-append, length-replicate, get_or_append_left, get_or-append-add, ext_get_or}
 use Rattle.std.proofs.lemmas.List.Elements.{All-head, All-tail}
-use Rattle.byteorder.specs.Endian.{little_from, little_bytes}
+use Rattle.byteorder.specs.Endian.{little_from}
 use Rattle.byteorder.specs.Numbers.{little_number-reads_back}
 use Rattle.edge_base.specs.declared.geometry.Request.{Request}
 use Rattle.edge_base.specs.Slots.{Entry, Slots, is_bad_name, is_name, slot_bytes, trimmed}
@@ -134,8 +134,8 @@ same_slots g one two m n few p q e k =
     let long_two = slot_length g (get_or two k None) (q k) in
     same_slot g (get_or one k None) (get_or two k None) few (p k) (q k)
     (ext_get_or 0 (slot_bytes g (get_or one k None)) (slot_bytes g (get_or two k None)) (omega arith) (λ c inside.
-        let within : c < 4 + g.name_max = omega arith in
-        sym (byte_of_slot g one m p k c within) ∙ ap (λ l. get_or l (k * (4 + g.name_max) + c) 0) e ∙ byte_of_slot g two n q k c within))
+    let within : c < 4 + g.name_max = omega arith in
+    sym (byte_of_slot g one m p k c within) ∙ ap (λ l. get_or l (k * (4 + g.name_max) + c) 0) e ∙ byte_of_slot g two n q k c within))
 
 -- ---- lists of slots, empty ones at the end aside
 

@@ -1,23 +1,20 @@
 -- A view stands for one tree alone.
-use Rattle.std.proofs.Common.{◌≡◌, ◌≢◌, cond, ◌↔◌, ℕ, zero, suc, ◌+◌, ◌-◌, ◌*◌, ◌/◌, ◌%◌, ◌<◌, ◌≤◌, ◌==◌, ◌||◌, ◌&&◌, inl, inr, Bool, true, false, List, [], ◌∷◌, ◌++◌, length, get_or, Option, Some, None, refl, sym, ap, ◌∙◌, subst, arith}
-use Rattle.std.specs.Prelude.{nat_lt}
-use Rattle.std.specs.List.{list_any, flat_map, range_with_len}
+use Rattle.std.proofs.Common.{◌≡◌, ◌≢◌, ◌↔◌, ℕ, zero, suc, ◌+◌, ◌*◌, ◌<◌, ◌≤◌, ◌==◌, ◌&&◌, inl, inr, Bool, true, false, List, length, get_or, Option, Some, None, refl, sym, ap, ◌∙◌, subst, arith}
+use Rattle.std.specs.List.{list_any, range_with_len}
 use Rattle.std.proofs.Math.Nat.{lt_of_mul-lt-mul_left, eq_of_mul-eq-mul_left}
-use Rattle.std.proofs.lemmas.Bool.{cases_lt, cases_Bool, cases_eq, eq-eqb, eqb-true, ne_eqb, or_from, or_left, or_right, or_cases}
-use Rattle.std.proofs.lemmas.List.{ext_get_or, get_or_past}
-use Rattle.std.proofs.lemmas.List.Folds.{list_any-append}
-use Rattle.edge_base.specs.declared.form.Form.{Form}
-use Rattle.edge_base.specs.declared.form.Form.TheVariants.{Plain}
+use Rattle.std.proofs.lemmas.Bool.{cases_eq, eq-eqb, or_left, or_right}
+use Rattle.std.proofs.lemmas.List.{ext_get_or}
 use Rattle.edge_base.specs.declared.geometry.Request.{Request}
 use Rattle.edge_base.specs.declared.node.Head.{Head}
 use Rattle.edge_base.specs.declared.node.NodeType.TheVariants.{File, Directory}
-use Rattle.edge_base.specs.Places.{pointers_of, max_blocks_of, max_size_of}
-use Rattle.edge_base.specs.Positions.{Position, same_position, data_at, indirect_at, double_at, above_indirect, above_data, chain, positions_of, has}
-use Rattle.edge_base.specs.Slots.{Entry, Slots, pieces, slots_in_block, slot_blocks}
+use Rattle.edge_base.specs.Places.{max_blocks_of}
+use Rattle.edge_base.specs.Positions.{data_at, positions_of, has}
+use Rattle.edge_base.specs.Slots.{Slots, pieces, slots_in_block, slot_blocks}
 use Rattle.edge_base.specs.Nodes.{Node, file, directory, marked_from, indices_of, size_of, kind_of, parent_of, block_of}
 use Rattle.edge_base.specs.NodeRules.{IsNode, IsFile, IsDirectory}
-use Rattle.edge_store.specs.View.{View, Inode, whole, broken, Content, bytes, content_at}
-use Rattle.edge_store.specs.Placed.{block_at, data_block, HoldsNode}
+use Rattle.edge_base.proofs.ChainLaws.{has-positions_of}
+use Rattle.edge_store.specs.View.{View, whole, bytes}
+use Rattle.edge_store.specs.Placed.{data_block, HoldsNode}
 use Rattle.edge_model.specs.Tree.{Tree}
 use Rattle.edge_model.specs.Rules.{IsTree}
 use Rattle.edge_disk.specs.Image.{Image}
@@ -30,37 +27,9 @@ use Rattle.edge_image.proofs.BlockLaws.{begun, marked, same_content, same_direct
 
 -- ---- data positions
 
-other_form : (number index : Bool) → (number && false && index) ≡ false
-other_form true index = refl
-other_form false index = refl
-
--- no pointer node is at a data position
-no_data_above : (g : Request) (n x j i : ℕ) → list_any (same_position (data_at n i)) (above_indirect g x j) ≡ false
-no_data_above g n x j i = elim (nat_lt j g.indirect) as (λ b. list_any (same_position (data_at n i)) (cond b [] (double_at x ((j - g.indirect) / pointers_of g) ∷ [])) ≡ false) [
-  | true ↦ refl
-  | false ↦ ap (λ b. b || false) (other_form (n == x) (i == (j - g.indirect) / pointers_of g))
-]
-
-no_data_in_chain : (g : Request) (n k i : ℕ) → list_any (same_position (data_at n i)) (above_data g n k) ≡ false
-no_data_in_chain g n k i =
-    let j = (k - g.direct) / pointers_of g in
-    elim (nat_lt k g.direct) as (λ b. list_any (same_position (data_at n i)) (cond b [] (indirect_at n j ∷ above_indirect g n j)) ≡ false) [
-      | true ↦ refl
-      | false ↦ or_from (same_position (data_at n i) (indirect_at n j)) _ (other_form (n == n) (i == j)) (no_data_above g n n j i)
-    ]
-
-same_index : (n i k : ℕ) → same_position (data_at n i) (data_at n k) ≡ (k == i)
-same_index n i k = ap (λ b. b && true && (i == k)) (eq-eqb n n refl) ∙ elim (cases_eq i k) [
-  | inl e ↦ eq-eqb i k e ∙ sym (eq-eqb k i (sym e))
-  | inr apart ↦ ne_eqb i k apart ∙ sym (ne_eqb k i (λ e. apart (sym e)))
-]
-
 -- a data position is among those of a node exactly where its index is
 pub data_positions : (g : Request) (n : ℕ) (indices : List ℕ) (i : ℕ) → has (positions_of g n indices) (data_at n i) ≡ list_any (λ k. k == i) indices
-data_positions g n [] i = refl
-data_positions g n (k ∷ indices) i =
-    let rest = list_any-append (same_position (data_at n i)) (above_data g n k) (positions_of g n indices) ∙ ap (λ b. b || has (positions_of g n indices) (data_at n i)) (no_data_in_chain g n k i) in
-    (λ t. same_index n i k t || rest t) ∙ ap (λ b. (k == i) || b) (data_positions g n indices i)
+data_positions g n indices i = has-positions_of g n indices (data_at n i) ∙ ap (λ b. b && list_any (λ k. k == i) indices) (eq-eqb n n refl)
 
 -- ---- the data blocks of a node that a view holds
 

@@ -1,5 +1,5 @@
 -- A fresh image: 64 blocks of 512 bytes, formatted at time 0 for 8 inodes. docs/FORMAT.md has its bytes.
-use Rattle.std.specs.Prelude.{ℕ, ◌==◌, if◌then◌else◌, List, [], ◌∷◌, ◌++◌, replicate}
+use Rattle.std.specs.Prelude.{ℕ, ◌==◌, if◌then◌else◌, List, ◌∷◌, ◌++◌, replicate}
 use Rattle.byteorder.specs.Endian.{little_bytes, big_bytes}
 use Rattle.edge_base.specs.declared.geometry.Request.{Request}
 use Rattle.edge_base.specs.Spelling.{master_signature, metaroot_signature, inode_signature}

@@ -2,6 +2,6 @@ pub mod Image
 pub mod Ready
 pub mod View
 pub mod Opens
+pub mod Room
 pub mod Fresh
 pub mod Formatted
-pub mod Same

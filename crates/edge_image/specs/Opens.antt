@@ -8,7 +8,7 @@ use Rattle.edge_base.specs.Positions.{Position, has}
 use Rattle.edge_base.specs.Nodes.{Node, kind_of, size_of, parent_of}
 use Rattle.edge_disk.specs.Disk.{Origin}
 use Rattle.edge_disk.specs.Image.{Image, shown_image}
-use Rattle.edge_store.specs.View.{View, Inode, whole, broken, is_used}
+use Rattle.edge_store.specs.View.{View, whole, broken, is_used}
 use Rattle.edge_store.specs.Placed.{block_at, HoldsNode}
 use Rattle.edge_model.specs.Tree.{Tree, links_of, tree_positions}
 use Rattle.edge_model.specs.Rules.{IsTree}
@@ -52,6 +52,12 @@ pub record OpensTo (image : Image) (t : Tree) : Type 0 where
   pub unbroken : (n : ℕ) → (view_of master.geometry image live).inodes n ≢ Some broken
   pub tree : IsTree master.geometry t
   pub stands : StandsFor master.geometry (view_of master.geometry image live) t
+
+-- Images of one size with the same blocks. What stands behind the last block means nothing.
+pub record IsAlike (image other : Image) : Type 0 where
+  pub blocks : other.blocks ≡ image.blocks
+  pub block_size : other.block_size ≡ image.block_size
+  pub same : (b : ℕ) → b < image.blocks → other.block b ≡ image.block b
 
 -- A disk is sound where each of its blocks has one candidate, it has had no fault, and what it shows opens to the tree.
 pub record IsSound (origin : Origin) (shown : ℕ → List ℕ) (is_sure : ℕ → Type 0) (faults : ℕ) (t : Tree) : Type 0 where

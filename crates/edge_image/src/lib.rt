@@ -1,26 +1,30 @@
-//! What an image says: its live metaroot, its used blocks, the reasons why it is not mounted, and
-//! whether it is ready. The definitions stand in `specs/`; the functions here are laws over them,
-//! without effects.
+//! What an image says: its live metaroot, its used blocks, the reasons why it is not mounted, whether
+//! it is ready, its view, and the tree that it opens to. The definitions stand in `specs/`; the
+//! functions here are laws over them, without effects.
 #![tactic(auto)]
 
-ghost use Rattle.std.specs.Prelude.{◌≡◌, ◌↔◌, ℕ, List, None, Some, Ok};
+ghost use Rattle.std.specs.Prelude.{◌≡◌, ◌↔◌, ℕ, ◌+◌, List, None, Some, Ok};
 ghost use Rattle.edge_base.specs.declared.geometry.Request.{Request};
 ghost use Rattle.edge_base.specs.declared.node.Head.{Head};
 ghost use Rattle.edge_base.specs.declared.node.Master.{Master};
+ghost use Rattle.edge_base.specs.Nodes.{Node};
+ghost use Rattle.edge_base.specs.Places.{allocable_of};
+ghost use Rattle.edge_base.specs.Positions.{count_of};
 ghost use Rattle.edge_base.specs.Spelling.{master_in};
 ghost use Rattle.edge_disk.specs.Image.{Image};
+ghost use Rattle.edge_store.specs.View.{View, is_used, count_allocable};
+ghost use Rattle.edge_store.specs.Counted.{Occupy};
+ghost use Rattle.edge_model.specs.Tree.{Tree, only_root, tree_positions};
 ghost use Rattle.edge_image.specs.Image.{Live, live_of, used_place, place_of, reason_of, head_of, root_number};
 ghost use Rattle.edge_image.specs.Ready.{IsReady, IsLive, IsMountable};
-ghost use Rattle.edge_base.specs.Nodes.{Node};
-ghost use Rattle.edge_model.specs.Tree.{Tree, only_root};
+ghost use Rattle.edge_image.specs.View.{view_of};
+ghost use Rattle.edge_image.specs.Opens.{OpensTo, StandsFor, IsAlike, head_of_node};
+ghost use Rattle.edge_image.specs.Room.{UsesAllocable};
 ghost use Rattle.edge_image.specs.Fresh.{fresh_image};
-ghost use Rattle.edge_image.specs.Opens.{OpensTo, head_of_node};
 
 mod formatted;
-mod same;
 
 pub use formatted::formatted_opens;
-pub use same::same_image_opens;
 
 /// The live metaroot is the valid one that no other beats, and there is no other such one.
 pub fn live_is_the_greater()
@@ -58,7 +62,22 @@ pub fn image_determines_tree()
     ensures { (image : Image) (t u : Tree) → OpensTo image t → OpensTo image u → t ≡ u }
 {}
 
+/// An image that has the same blocks opens to the same tree.
+pub fn alike_images_open_alike()
+    ensures { (image other : Image) (t : Tree) → IsAlike image other → OpensTo image t → OpensTo other t }
+{}
+
 /// A fresh image opens to the tree that has an empty root directory alone.
 pub fn fresh_image_opens()
     ensures { OpensTo fresh_image only_root }
+{}
+
+/// A view that stands for a tree uses as many blocks as the tree has positions: each position occupies
+/// one. Of an image that opens to a tree, the free blocks that its live metaroot counts and the
+/// positions are together all allocable blocks.
+pub fn room_counts()
+    ensures allocable { (g : Request) (image : Image) (live : Live) → UsesAllocable g (view_of g image live) }
+    ensures occupied { (g : Request) (v : View) (t : Tree) → UsesAllocable g v → StandsFor g v t → Occupy g v (tree_positions g t) (is_used v) }
+    ensures used { (g : Request) (v : View) (t : Tree) → UsesAllocable g v → StandsFor g v t → count_allocable g (is_used v) ≡ count_of (tree_positions g t) }
+    ensures free { (image : Image) (t : Tree) → (opens : OpensTo image t) → opens.live.root.free_blocks + count_of (tree_positions opens.master.geometry t) ≡ allocable_of opens.master.geometry }
 {}

@@ -1,3 +1,5 @@
 pub mod View
 pub mod Placed
 pub mod Fresh
+pub mod Frames
+pub mod Counted

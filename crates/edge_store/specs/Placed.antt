@@ -1,9 +1,11 @@
 -- Where the blocks of a node are, and when a view has a node.
-use Rattle.std.specs.Prelude.{◌≡◌, ◌≢◌, ◌↔◌, ℕ, ◌+◌, ◌-◌, ◌/◌, ◌%◌, ◌<◌, ◌==◌, true, nat_lt, if◌then◌else◌, List, slice_index, Some}
+use Rattle.std.specs.Prelude.{◌≡◌, ◌≢◌, ◌↔◌, ℕ, ◌+◌, ◌-◌, ◌/◌, ◌%◌, ◌<◌, ◌==◌, true, nat_lt, if◌then◌else◌, List, [], ◌∷◌, slice_index, Some}
 use Rattle.std.specs.List.{list_any}
 use Rattle.edge_base.specs.declared.form.Form.{Form}
 use Rattle.edge_base.specs.declared.form.Form.TheVariants.{Plain, Indirect, Double}
 use Rattle.edge_base.specs.declared.geometry.Request.{Request}
+use Rattle.edge_base.specs.declared.way.Way.{Way}
+use Rattle.edge_base.specs.declared.way.Way.TheVariants as way
 use Rattle.edge_base.specs.Places.{pointers_of}
 use Rattle.edge_base.specs.Positions.{Position, has, positions_of, positions_of_form}
 use Rattle.edge_base.specs.Nodes.{Node, indices_of, block_of, size_of, kind_of, parent_of}
@@ -41,6 +43,20 @@ block_at g v p = by_form p.form
     by_form Plain = data_block g v p.number p.index
     by_form Indirect = indirect_block g v p.number p.index
     by_form Double = double_block g v p.number p.index
+
+-- ---- a way from the entries of an inode
+
+-- the block that a way leads to, 0 where it breaks off
+abbrev pub follow : View → List ℕ → Way → ℕ
+follow v entries (way.Direct entry) = slice_index entries entry
+follow v entries (way.Single entry place) = pointer_at v Indirect (slice_index entries entry) place
+follow v entries (way.Double entry outer place) = pointer_at v Indirect (pointer_at v Double (slice_index entries entry) outer) place
+
+-- the pointer nodes on a way, from the data block up
+abbrev pub nodes_on : View → List ℕ → Way → List ℕ
+nodes_on v entries (way.Direct entry) = []
+nodes_on v entries (way.Single entry place) = slice_index entries entry ∷ []
+nodes_on v entries (way.Double entry outer place) = pointer_at v Double (slice_index entries entry) outer ∷ slice_index entries entry ∷ []
 
 -- ---- a node
 

@@ -1,5 +1,5 @@
-use Rattle.edge_image.proofs.FreshLaws.{lengths}
+use Rattle.edge_image.proofs.FreshLaws.{fresh_opens}
 use Rattle.edge_image.proofs.fresh_image_opens.Goals as goal
 
 pub returns : goal.returns
-returns c = ?
+returns c = fresh_opens

@@ -1,0 +1,151 @@
+-- What an image opens to depends on its own blocks alone.
+use Rattle.std.proofs.Common.{◌≡◌, ℕ, zero, suc, ◌+◌, ◌-◌, ◌<◌, ◌≤◌, ◌&&◌, ◌||◌, not, Bool, true, false, cond, List, Option, Some, None, Ok, Err, refl, sym, ap, ◌∙◌, subst, arith}
+use Rattle.std.specs.Prelude.{Result, nat_lt, nat_le}
+use Rattle.std.specs.List.{list_any, range_with_len}
+use Rattle.std.proofs.lemmas.Bool.{and_parts, leb-true, ltb-true}
+use Rattle.edge_base.specs.declared.geometry.Request.{Request}
+use Rattle.edge_base.specs.declared.node.Master.{Master}
+use Rattle.edge_base.specs.declared.node.Metaroot.{Metaroot}
+use Rattle.edge_base.specs.declared.node.NodeFault.{NodeFault}
+use Rattle.edge_base.specs.Places.{imap_nodes_of, inode_place_of, first_allocable_of, allocable_of}
+use Rattle.edge_base.specs.Bytes.{bit_in}
+use Rattle.edge_base.specs.Sizes.{place_of}
+use Rattle.edge_base.specs.Spelling.{master_in, metaroot_in}
+use Rattle.edge_disk.specs.Image.{Image}
+use Rattle.edge_store.specs.View.{View, is_allocable}
+use Rattle.edge_model.specs.Tree.{Tree}
+use Rattle.edge_image.specs.Image.{Live, live_among, live_of, is_used, spells_imap, imap_block_of, has_bad_imap, free_blocks_of, free_inodes_of}
+use Rattle.edge_image.specs.Ready.{IsMountable}
+use Rattle.edge_image.specs.View.{inode_at, inode_by, is_number, inode_of, block_told, block_of, view_of}
+use Rattle.edge_image.specs.Opens.{OpensTo, StandsFor, IsAlike}
+use Rattle.edge_image.proofs.GeometryLaws.{usable}
+use Rattle.edge_image.proofs.ReasonLaws.{without_a_reason, mountable}
+
+-- ---- the live metaroot
+
+place_below : (one two : Result Metaroot NodeFault) (live : Live) → live_among one two ≡ Some live → live.place < 3
+place_below (Ok one) (Ok two) live is =
+    elim (nat_lt one.sequence two.sequence) as (λ t. Some (cond t (record { place = 2; root = two }) (record { place = 1; root = one })) ≡ Some live → live.place < 3) [
+      | true ↦ λ e. let h : record { place = 2; root = two } ≡ live = cc in let p = ap (λ (l : Live). l.place) h in omega arith
+      | false ↦ λ e. let h : record { place = 1; root = one } ≡ live = cc in let p = ap (λ (l : Live). l.place) h in omega arith
+    ] is
+place_below (Ok one) (Err fault) live is = let h : record { place = 1; root = one } ≡ live = cc in let p = ap (λ (l : Live). l.place) h in omega arith
+place_below (Err fault) (Ok two) live is = let h : record { place = 2; root = two } ≡ live = cc in let p = ap (λ (l : Live). l.place) h in omega arith
+place_below (Err fault) (Err other) live is = absurd (let wrong : None ≡ Some live = is in cc)
+
+-- ---- imap nodes
+
+any_alike : (p q : ℕ → Bool) (a n : ℕ) → ((i : ℕ) → a ≤ i → i < a + n → p i ≡ q i) → list_any p (range_with_len a n) ≡ list_any q (range_with_len a n)
+any_alike p q a zero same = refl
+any_alike p q a (suc n) same =
+    let first = same a (omega arith) (omega arith) in
+    let rest = any_alike p q (a + 1) n (λ i from to. same i (omega arith) (omega arith)) in
+    λ t. first t || rest t
+
+low_place : (second : Bool) → place_of second ≤ 1
+low_place true = omega arith
+low_place false = omega arith
+
+imap_below : (g : Request) (root : List ℕ) (i : ℕ) → first_allocable_of g ≤ g.blocks → i < imap_nodes_of g → imap_block_of g root i < g.blocks
+imap_below g root i room below = let low = low_place (bit_in 32 root i) in omega arith
+
+-- ---- places of inodes
+
+place_inside : (g : Request) (n : ℕ) (second : Bool) → first_allocable_of g ≤ g.blocks → is_number g n ≡ true → inode_place_of g n second < g.blocks
+place_inside g n second room is =
+    let parts = and_parts (nat_le 2 n) (nat_lt n (2 + g.inodes)) is in
+    let from = leb-true 2 n parts.0 in
+    let below = ltb-true n (2 + g.inodes) parts.1 in
+    let low = low_place second in
+    omega arith
+
+block_inside : (g : Request) (b : ℕ) → first_allocable_of g ≤ g.blocks → is_allocable g b ≡ true → b < g.blocks
+block_inside g b room is =
+    let parts = and_parts (nat_le (first_allocable_of g) b) (nat_lt b (first_allocable_of g + allocable_of g)) is in
+    let below = ltb-true b (first_allocable_of g + allocable_of g) parts.1 in
+    inside (first_allocable_of g) g.blocks b room below
+  where
+    inside : (first blocks b : ℕ) → first ≤ blocks → b < first + (blocks - first) → b < blocks
+    inside first blocks b room below = omega arith
+
+-- ---- the view
+
+cond_alike : {A : Type 0} (b : Bool) (x y : Option A) → (b ≡ true → x ≡ y) → cond b x None ≡ cond b y None
+cond_alike true x y same = same refl
+cond_alike false x y same = refl
+
+module _ (g : Request) (image other : Image) (alike : IsAlike image other) (fits : g.blocks ≤ image.blocks) (room : first_allocable_of g ≤ g.blocks) where
+  same_block : (b : ℕ) → b < g.blocks → other.block b ≡ image.block b
+  same_block b below = alike.same b (omega arith)
+
+  inode_by_alike : (n : ℕ) (first second : Bool) → is_number g n ≡ true → inode_by g other n first second ≡ inode_by g image n first second
+  inode_by_alike n true true is = refl
+  inode_by_alike n true false is = ap (λ b. Some (inode_at g b)) (same_block (inode_place_of g n false) (place_inside g n false room is))
+  inode_by_alike n false true is = ap (λ b. Some (inode_at g b)) (same_block (inode_place_of g n true) (place_inside g n true room is))
+  inode_by_alike n false false is = refl
+
+  inode_alike : (root : List ℕ) (n : ℕ) → inode_of g other root n ≡ inode_of g image root n
+  inode_alike root n = cond_alike (is_number g n) _ _ (inode_by_alike n (is_used g root (inode_place_of g n false)) (is_used g root (inode_place_of g n true)))
+
+  block_alike : (root : List ℕ) (b : ℕ) → block_of g other root b ≡ block_of g image root b
+  block_alike root b = cond_alike (is_allocable g b && is_used g root b) _ _ (λ is. ap (λ x. Some (block_told g x)) (same_block b (block_inside g b room (and_parts (is_allocable g b) (is_used g root b) is).0)))
+
+  view_alike : (live : Live) → other.block live.place ≡ image.block live.place → view_of g other live ≡ view_of g image live
+  unfolding view_of
+  view_alike live root = λ t. record {
+    inodes = λ n. (ap (λ r. inode_of g other r n) root ∙ inode_alike (image.block live.place) n) t;
+    blocks = λ b. (ap (λ r. block_of g other r b) root ∙ block_alike (image.block live.place) b) t;
+  }
+
+-- ---- what an image is mounted with
+
+-- an image that opens is mounted with its master and its live metaroot
+pub mounted_with : (image : Image) (t : Tree) → (opens : OpensTo image t) → IsMountable image opens.master opens.live
+mounted_with image t opens =
+    let so = without_a_reason image opens.mounts in
+    let master : so.0 ≡ opens.master = let e = sym so.2.is_master ∙ opens.is_master in cc in
+    let live : so.1 ≡ opens.live = let e = sym so.2.is_live ∙ ap (λ (m : Master). live_of m.geometry image) master ∙ opens.is_live in cc in
+    subst (IsMountable image opens.master) live (subst (λ (m : Master). IsMountable image m so.1) master so.2)
+
+mounted_alike : (image other : Image) (master : Master) (live : Live) → IsAlike image other → first_allocable_of master.geometry ≤ master.geometry.blocks → IsMountable image master live → IsMountable other master live
+mounted_alike image other master live alike room is =
+    let g = master.geometry in
+    let same : (b : ℕ) → b < 3 → other.block b ≡ image.block b = λ b low. alike.same b (let enough = is.blocks in omega arith) in
+    let zero_same = same 0 (omega arith) in
+    let one_same = same 1 (omega arith) in
+    let two_same = same 2 (omega arith) in
+    let root = same live.place (place_below (metaroot_in g (image.block 1)) (metaroot_in g (image.block 2)) live is.is_live) in
+    record {
+      blocks = subst (λ (n : ℕ). 3 ≤ n) (sym alike.blocks) is.blocks;
+      is_master = ap master_in zero_same ∙ is.is_master;
+      size = is.size ∙ sym alike.block_size;
+      fits = subst (λ (n : ℕ). g.blocks ≤ n) (sym alike.blocks) is.fits;
+      is_live = (λ t. live_among (metaroot_in g (one_same t)) (metaroot_in g (two_same t))) ∙ is.is_live;
+      sequence = is.sequence;
+      imap_nodes = ap (has_bad_imap g other) root
+          ∙ any_alike (λ i. not (spells_imap g i (other.block (imap_block_of g (image.block live.place) i)))) (λ i. not (spells_imap g i (image.block (imap_block_of g (image.block live.place) i)))) 0 (imap_nodes_of g)
+          (λ i from below. ap (λ b. not (spells_imap g i b)) (same_block g image other alike is.fits room (imap_block_of g (image.block live.place) i) (imap_below g (image.block live.place) i room (omega arith))))
+          ∙ is.imap_nodes;
+      free_blocks = is.free_blocks ∙ ap (free_blocks_of g) (sym root);
+      free_inodes = is.free_inodes ∙ ap (free_inodes_of g) (sym root);
+      room = is.room;
+    }
+
+pub opens_alike : (image other : Image) (t : Tree) → IsAlike image other → OpensTo image t → OpensTo other t
+opens_alike image other t alike opens =
+    let g = opens.master.geometry in
+    let is = mounted_with image t opens in
+    let room = (usable (image.block 0) opens.master opens.is_master).room in
+    let then = mounted_alike image other opens.master opens.live alike room is in
+    let low = place_below (metaroot_in g (image.block 1)) (metaroot_in g (image.block 2)) opens.live opens.is_live in
+    let view = view_alike g image other alike is.fits room opens.live (alike.same opens.live.place (let enough = is.blocks in omega arith)) in
+    record {
+      mounts = mountable other (opens.master, opens.live, then);
+      master = opens.master;
+      is_master = then.is_master;
+      live = opens.live;
+      is_live = then.is_live;
+      unbroken = λ n e. opens.unbroken n (ap (λ (v : View). v.inodes n) (sym view) ∙ e);
+      tree = opens.tree;
+      stands = subst (λ (v : View). StandsFor g v t) (sym view) opens.stands;
+    }

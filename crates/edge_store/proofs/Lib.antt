@@ -1,0 +1,5 @@
+pub mod DigitLaws
+pub mod WayLaws
+pub mod FrameLaws
+pub mod ShapeLaws
+pub mod CountLaws
