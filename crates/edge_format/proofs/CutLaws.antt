@@ -1,5 +1,5 @@
 -- What a cut leaves of a disk that is being formatted, from what the parts promise.
-use Rattle.std.proofs.Common.{◌≡◌, ◌≢◌, ◌⊎◌, inl, inr, ⊎_elim, ℕ, ◌<◌, ◌≤◌, ◌==◌, not, List, replicate, Ok, Err, Result, refl, sym, ap, ◌∙◌, subst, arith}
+use Rattle.std.proofs.Common.{◌≡◌, ◌≢◌, ◌⊎◌, inl, inr, ⊎_elim, ℕ, ◌<◌, ◌≤◌, ◌==◌, List, replicate, Ok, Err, Result, refl, sym, ap, ◌∙◌, subst, arith}
 use Rattle.std.specs.Prelude.{IsTrue, OnErr}
 use Rattle.std.proofs.lemmas.Bool.{cases_eq, eqb-true}
 use Rattle.edge_base.specs.declared.geometry.Request.{Request}
@@ -9,13 +9,13 @@ use Rattle.edge_base.specs.Places.{IsWithinLimits}
 use Rattle.edge_base.specs.Bytes.{signature_in}
 use Rattle.edge_base.specs.Spelling.{master_signature, master_in, SpellsNoNode}
 use Rattle.edge_disk.specs.Disk.{Origin}
-use Rattle.edge_disk.specs.Image.{Image, shown_image, IsPermitted, IsPlain}
-use Rattle.edge_image.specs.Same.{IsSameImage}
-use Rattle.edge_image.specs.Formatted.{master_of, root_place, zero_block, HasFirstMetaroot, HasEmptyRoot, IsFormatted, OpensFresh}
+use Rattle.edge_disk.specs.Image.{Image, shown_image, IsPermitted}
+use Rattle.edge_image.specs.Opens.{IsAlike}
+use Rattle.edge_image.specs.Formatted.{master_of, root_place, zero_block, HasFirstMetaroot, HasEmptyRoot, OpensFresh}
 use Rattle.edge_image.proofs.FormattedLaws.{no_signature, opens_fresh}
 use Rattle.edge_nodes.proofs.HeaderLaws.{passed}
 use Rattle.edge_nodes.proofs.MasterLaws.{spelled_master}
-use Rattle.edge_format.specs.Disk.{IsTold, IsSettled, Keeps, IsBesideNodes, HasNodes}
+use Rattle.edge_format.specs.Disk.{IsTold, Keeps, IsBesideNodes, HasNodes}
 use Rattle.edge_format.specs.Cut.{EachPermitted, EachPlain, HasNoMaster, IsOldOrFresh}
 
 pub on_err : {T E : Type 0} (r : Result T E) (P : Type 0) → P → OnErr r P
@@ -122,10 +122,10 @@ module _ (g : Request) (time : ℕ) (origin : Origin) (shown : ℕ → List ℕ)
         let nodes = room.nodes in
         let some : 0 < origin.blocks = omega arith in
         let blocks = ap (λ (o : Origin). o.blocks) same in
-        let unchanged : image.block 0 ≡ before 0 → IsSameImage (shown_image old before) image = λ first. record {
+        let unchanged : image.block 0 ≡ before 0 → IsAlike (shown_image old before) image = λ first. record {
           blocks = permitted.blocks ∙ blocks;
           block_size = permitted.block_size ∙ ap (λ (o : Origin). o.block_size) same;
-          each = λ b below. elim (cases_eq b 0) [
+          same = λ b below. elim (cases_eq b 0) [
             | inl e ↦ subst (λ (k : ℕ). image.block k ≡ before k) (sym e) first
             | inr far ↦ others image permitted sure b far (omega arith)
           ];

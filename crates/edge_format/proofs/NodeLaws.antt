@@ -1,15 +1,15 @@
 -- The bitmap and the entries of a fresh image, as lists, and what its nodes spell.
-use Rattle.std.proofs.Common.{◌≡◌, ℕ, suc, ◌+◌, ◌-◌, ◌*◌, ◌/◌, ◌<◌, ◌≤◌, ◌==◌, false, List, ◌∷◌, take, set, replicate, Ok, sym, ap, ◌∙◌, arith, subst}
+use Rattle.std.proofs.Common.{◌≡◌, ℕ, suc, ◌<◌, ◌≤◌, false, List, ◌∷◌, take, set, replicate, Ok, sym, ap, ◌∙◌, arith, subst}
 use Rattle.std.proofs.lemmas.Bool.{ne_eqb}
-use Rattle.std.proofs.lemmas.List.{take-replicate, length-replicate}
+use Rattle.std.proofs.lemmas.List.{take-replicate}
 use Rattle.edge_base.specs.declared.geometry.Request.{Request}
 use Rattle.edge_base.specs.declared.node.Metaroot.{Metaroot}
-use Rattle.edge_base.specs.Places.{IsGeometry, entries_of, root_bits_of, table_start_of}
-use Rattle.edge_base.specs.Bytes.{bit_in, numbers_at}
+use Rattle.edge_base.specs.Places.{IsGeometry, entries_of, root_bits_of}
+use Rattle.edge_base.specs.Bytes.{bit_in}
 use Rattle.edge_base.specs.Spelling.{SpellsMetaroot, SpellsInode}
 use Rattle.edge_image.specs.Formatted.{first_metaroot, empty_root, HasFirstMetaroot, HasEmptyRoot}
 use Rattle.edge_image.proofs.FormattedLaws.{first_bit, root_alone}
-use Rattle.edge_nodes.proofs.GeometryLaws.{geometry_long, limits, root_bits_of-inline}
+use Rattle.edge_nodes.proofs.GeometryLaws.{limits, root_bits_of-inline}
 use Rattle.edge_nodes.proofs.MetarootLaws.{metaroot_in-spelled}
 use Rattle.edge_nodes.proofs.InodeLaws.{inode_in-spelled}
 

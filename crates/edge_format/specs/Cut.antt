@@ -1,11 +1,11 @@
 -- What a cut may leave of a disk that is being formatted.
-use Rattle.std.specs.Prelude.{◌≡◌, ◌≢◌, ◌⊎◌, ℕ, List, Ok}
+use Rattle.std.specs.Prelude.{◌≢◌, ◌⊎◌, ℕ, List, Ok}
 use Rattle.edge_base.specs.declared.geometry.Request.{Request}
 use Rattle.edge_base.specs.declared.node.Master.{Master}
 use Rattle.edge_base.specs.Spelling.{master_in}
 use Rattle.edge_disk.specs.Disk.{Origin}
 use Rattle.edge_disk.specs.Image.{Image, IsPermitted, IsPlain}
-use Rattle.edge_image.specs.Same.{IsSameImage}
+use Rattle.edge_image.specs.Opens.{IsAlike}
 use Rattle.edge_image.specs.Formatted.{OpensFresh}
 
 -- so is each permitted image
@@ -22,4 +22,4 @@ HasNoMaster image = (m : Master) → master_in (image.block 0) ≢ Ok m
 
 -- the old image, or no volume, or a fresh one
 abbrev pub IsOldOrFresh : Image → Request → ℕ → Image → Type 0
-IsOldOrFresh old g time image = IsSameImage old image ⊎ HasNoMaster image ⊎ OpensFresh g time image
+IsOldOrFresh old g time image = IsAlike old image ⊎ HasNoMaster image ⊎ OpensFresh g time image

@@ -10,7 +10,7 @@ pub record IsTold (origin : Origin) (faults : ℕ) : Type 0 where
   pub keeps : IsTrue origin.keeps
   pub no_fault : faults ≡ 0
 
--- And each of its blocks has one candidate.
+-- And each of its blocks has one candidate: what formatting is to begin with.
 pub record IsSettled (origin : Origin) (is_sure : ℕ → Type 0) (faults : ℕ) : Type 0 where
   pub told : IsTold origin faults
   pub sure : (b : ℕ) → b < origin.blocks → is_sure b

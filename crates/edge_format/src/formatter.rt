@@ -51,7 +51,7 @@ pub fn format<D: Disk>(
     // A cut after a fault may also leave the old image, or one without a master.
     ensures cut { IsSettled (D.origin disk.old) (D.is_sure disk.old) (D.faults disk.old)
         → OnErr result (EachPlain (D.origin disk.new) (D.may_hold disk.new) (D.is_sure disk.new)
-            (IsOldOrFresh (shown_image (D.origin disk.old) (D.shown disk.old)) g time)) }
+        (IsOldOrFresh (shown_image (D.origin disk.old) (D.shown disk.old)) g time)) }
 
     // Other blocks are not touched.
     ensures kept { Keeps (IsBeside g) (D.shown disk.old) (D.shown disk.new) (D.may_hold disk.old) (D.may_hold disk.new) (D.is_sure disk.old) (D.is_sure disk.new) }
@@ -64,11 +64,7 @@ pub fn format<D: Disk>(
 }
 
 // Writes zeros over the master, so that the image is no volume while its nodes are written.
-fn clear_master<D: Disk>(
-    disk: &mut D,
-    g: &Geometry,
-    buffer: &mut [u8],
-) -> Result<(), DeviceFault>
+fn clear_master<D: Disk>(disk: &mut D, g: &Geometry, buffer: &mut [u8]) -> Result<(), DeviceFault>
     requires size { (D.origin disk.old).block_size ≡ g.now.block_size }
     requires fits { g.now.blocks ≤ (D.origin disk.old).blocks }
     requires whole { length buffer.old ≡ g.now.block_size }
@@ -82,7 +78,8 @@ fn clear_master<D: Disk>(
 {
     let _within_limits = g.request();
     buffer.fill(0);
-    put(disk, 0, buffer)?;
+    let zeros = &*buffer;
+    put(disk, 0, zeros)?;
     Ok(())
 }
 

@@ -7,6 +7,7 @@ use edge_nodes::{encode_inode, encode_master, encode_metaroot};
 
 // The bytes of the longest bitmap, and the entries of the largest inode.
 const MOST_BITS: usize = 4064;
+
 const MOST_ENTRIES: usize = 1016;
 
 /// Writes the master over the whole of `out`.

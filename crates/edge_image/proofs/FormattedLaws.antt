@@ -31,10 +31,10 @@ use Rattle.edge_image.proofs.EmptyRootLaws.{IsEmptyView, only_root_is_tree, stan
 -- ---- limits
 
 -- what is left of the limits of a geometry
-pub record IsRoomy (g : Request) : Type 0 where
-  pub some_inode : 1 ≤ g.inodes
-  pub room : 3 ≤ allocable_of g
-  pub inline : is_inline_of g ≡ true
+record IsRoomy (g : Request) : Type 0 where
+  some_inode : 1 ≤ g.inodes
+  room : 3 ≤ allocable_of g
+  inline : is_inline_of g ≡ true
 
 kept : (broken : Bool) (limit : BadGeometry) (rest : Option BadGeometry) → cond broken (Some limit) rest ≡ None → (broken ≡ false) × (rest ≡ None)
 kept false limit rest e = (refl, e)
@@ -44,7 +44,7 @@ some_number : (n : ℕ) → (n == 0) ≡ false → 1 ≤ n
 some_number zero e = absurd (false≢true (sym e))
 some_number (suc n) e = omega arith
 
-pub roomy : (g : Request) → bad_geometry g ≡ None → IsRoomy g
+roomy : (g : Request) → bad_geometry g ≡ None → IsRoomy g
 unfolding bad_geometry
 roomy g e =
     let size = kept (not (is_block_size g.block_size)) BlockSize _ e in
@@ -61,7 +61,7 @@ roomy g e =
     }
 
 -- no imap node is bad where there is none
-pub no_bad_imap : (g : Request) (image : Image) (bytes : List ℕ) → is_inline_of g ≡ true → has_bad_imap g image bytes ≡ false
+no_bad_imap : (g : Request) (image : Image) (bytes : List ℕ) → is_inline_of g ≡ true → has_bad_imap g image bytes ≡ false
 no_bad_imap g image bytes inline =
     ap (λ b. list_any (λ i. not (spells_imap g i (image.block (imap_block_of g bytes i)))) (range_with_len 0 (cond b 0 ((g.blocks - 3 + node_bits g.block_size + 1) / (node_bits g.block_size + 2))))) inline
 

@@ -9,5 +9,4 @@ pub mod AlikeLaws
 pub mod RoomLaws
 pub mod EmptyRootLaws
 pub mod FormattedLaws
-pub mod SameLaws
 pub mod NodeLaws

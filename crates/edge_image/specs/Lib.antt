@@ -5,4 +5,3 @@ pub mod Opens
 pub mod Room
 pub mod Fresh
 pub mod Formatted
-pub mod Same

@@ -25,10 +25,8 @@ ghost use Rattle.edge_image.specs.Room.{UsesAllocable};
 ghost use Rattle.edge_image.specs.Fresh.{fresh_image};
 
 mod formatted;
-mod same;
 
 pub use formatted::formatted_opens;
-pub use same::same_image_opens;
 
 /// The live metaroot is the valid one that no other beats, and there is no other such one.
 pub fn live_is_the_greater()

@@ -1,4 +1,4 @@
-use Rattle.std.proofs.Common.{◌-◌, ◌/◌, refl, sym, ap, arith, subst}
+use Rattle.std.proofs.Common.{◌-◌, ◌/◌, refl, ap, arith}
 use Rattle.edge_nodes.proofs.GeometryLaws.{geometry_long}
 use Rattle.edge_format.proofs.NodeLaws.{has_root}
 use Rattle.edge_format.proofs.nodes.fill_root.Goals as goal
