@@ -1,7 +1,6 @@
 # The program, its demonstration, its tests and its installation. `rt` proves and builds.
 
 PREFIX = /usr/local
-IMAGE = crates/edge/data/tiny.img
 SCRIPT = crates/edge/stdin
 REPLIES = crates/edge/stdout
 
@@ -21,10 +20,14 @@ edge:
 build/edge:
 	@$(MAKE) edge
 
-# Runs the stored script on a copy of the stored image, shows each line with its reply, and
-# compares the replies with the stored ones.
+# Formats an image, runs the stored script on it, shows each line with its reply, and compares the
+# replies with the stored ones.
 demo: edge
-	@cp $(IMAGE) build/demo.img
+	@rm -f build/demo.img
+	@echo '$$ edge format demo.img -n 64 -m 8'
+	@build/edge format build/demo.img -n 64 -m 8 >build/demo.out; cat build/demo.out
+	@echo 'formatted 45' | cmp - build/demo.out
+	@echo '$$ edge run demo.img'
 	@build/edge run build/demo.img <$(SCRIPT) >build/demo.out
 	@exec 3<build/demo.out; \
 	while IFS= read -r line || [ -n "$$line" ]; do \
