@@ -31,7 +31,7 @@ origin_of d = record {
 abbrev pub shown_of : MemoryDisk → ℕ → List ℕ
 shown_of d b = block_in d.image.items b
 
--- the candidates of a block beyond its shown bytes, the oldest first
+-- the candidates of a block beyond its shown bytes, in the order in which they joined: the bytes that a write replaced, or those of a write that failed
 abbrev pub extra_of : MemoryDisk → ℕ → List (List ℕ)
 extra_of d b = remembered b (take d.used d.slots.items)
 

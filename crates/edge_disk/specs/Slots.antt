@@ -8,7 +8,7 @@ use Rattle.edge_disk.specs.declared.slot.Slot.{Slot}
 abbrev pub block_in : List (Vec ℕ Global) → ℕ → List ℕ
 block_in image b = slice_index_or (map (λ (v : Vec ℕ Global). v.items) image) b []
 
--- the candidates in these slots that are block b's, the oldest first
+-- the candidates in these slots that are block b's, as they joined
 abbrev pub remembered : ℕ → List Slot → List (List ℕ)
 remembered b slots = map (λ (s : Slot). s.bytes.items) (filter (λ (s : Slot). s.block == b) slots)
 

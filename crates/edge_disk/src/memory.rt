@@ -88,6 +88,7 @@ impl Disk for MemoryDisk {
         ensures fails { IsErr result ↔ IsListed self.old }
         ensures counts { CountsCall result self.old self.new }
         ensures extra { SameExtra self.old self.new }
+        ensures untouched { OnErr result (out.new ≡ out.old) }
     {
         if is_to_fail(&mut self.calls, &self.fails) {
             return Err(fault(&mut self.faults));
@@ -224,7 +225,7 @@ impl MemoryDisk {
         1 + count_of(&self.slots[..self.used], b) as u32
     }
 
-    // Candidate `pick` of block `b`: the shown bytes are candidate 0, and then come the further ones, the oldest first.
+    // Candidate `pick` of block `b`: the shown bytes are candidate 0, and then come the further ones as they joined.
     fn candidate(&self, b: u32, pick: u32) -> &[u8]
         requires in_range { b < (origin_of self.now).blocks }
         ensures { result.now ≡ slice_index_or (candidates_of self.now b) pick [] }
@@ -240,7 +241,8 @@ impl MemoryDisk {
 
     /// The image in which block `b` holds the candidate whose number is `pick[b]`, below `loose(b)`.
     ///
-    /// Candidate 0 is what reads give, and then come the further ones, the oldest first. The blocks stand
+    /// Candidate 0 is what reads give, and then come the further ones in the order in which they joined:
+    /// the bytes that a write replaced, or those of a write that failed. The blocks stand
     /// end to end.
     pub fn permitted(&self, alloc: Global, pick: &[u32]) -> Result<Vec<u8>, AllocError>
         requires one_each { length pick.now ≡ (origin_of self.now).blocks }

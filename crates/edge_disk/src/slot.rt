@@ -42,7 +42,7 @@ pub fn count_of(slots: &[Slot], block: u32) -> usize
     slots.iter().filter(|slot| slot.block == block).count()
 }
 
-/// The slot at `index` among those of these that are the block's, the oldest first.
+/// The slot at `index` among those of these that are the block's, as they joined.
 pub fn nth_of(slots: &[Slot], block: u32, index: usize) -> Option<&Slot>
     ensures { option_map (λ s. s.now) result ≡ slice_get (filter (λ s. s.block == block) slots.now) index }
 {

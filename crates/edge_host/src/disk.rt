@@ -113,7 +113,7 @@ impl HostDisk {
 }
 
 impl Disk for HostDisk {
-    ghost use Rattle.std.specs.Prelude.{[], length, IsErr};
+    ghost use Rattle.std.specs.Prelude.{[], ◌+◌, ◌-◌, length, min, IsErr, OnErr};
     ghost use Rattle.edge_base.specs.Faults.{HasCause};
     ghost use Rattle.edge_host.specs.HostDisk.{origin_of, faults_of, sync_failed_of};
 
@@ -153,6 +153,7 @@ impl Disk for HostDisk {
         requires whole { length out.old ≡ (origin_of self.old).block_size }
         ensures origin { origin_of self.new ≡ origin_of self.old }
         ensures cause { HasCause (faults_of self.old) (faults_of self.new) result }
+        ensures counted { OnErr result (faults_of self.new ≡ min (faults_of self.old + 1) (2 ^ 64 - 1)) }
         ensures sync_failed { sync_failed_of self.new ≡ sync_failed_of self.old }
     {
         let place = self.place(b);
@@ -168,6 +169,7 @@ impl Disk for HostDisk {
         requires whole { length bytes.now ≡ (origin_of self.old).block_size }
         ensures origin { origin_of self.new ≡ origin_of self.old }
         ensures cause { HasCause (faults_of self.old) (faults_of self.new) result }
+        ensures counted { OnErr result (faults_of self.new ≡ min (faults_of self.old + 1) (2 ^ 64 - 1)) }
         ensures sync_failed { sync_failed_of self.new ≡ sync_failed_of self.old }
     {
         let place = self.place(b);
@@ -182,6 +184,7 @@ impl Disk for HostDisk {
     fn flush(&mut self) -> Result<(), DeviceFault>
         ensures origin { origin_of self.new ≡ origin_of self.old }
         ensures cause { HasCause (faults_of self.old) (faults_of self.new) result }
+        ensures counted { OnErr result (faults_of self.new ≡ min (faults_of self.old + 1) (2 ^ 64 - 1)) }
         ensures failed { IsErr result → IsTrue (sync_failed_of self.new) }
         ensures stays { IsTrue (sync_failed_of self.old) → IsErr result }
     {

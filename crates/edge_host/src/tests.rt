@@ -269,3 +269,31 @@ fn clock_gives_its_last_moment_again(rt: HostRuntime) -> Result<(), Fail> {
     assert!(rt; before <= moment && moment <= after);
     Ok(())
 }
+
+#[test]
+fn folder_keeps_an_item_at_a_fault(rt: HostRuntime) -> Result<(), Fail> {
+    let (root, gone) = ("edge_host_test_gone", "edge_host_test_gone/b");
+    fs::create_dir(&rt, root)?;
+    fs::write(&rt, "edge_host_test_gone/a", "in a")?;
+    fs::write(&rt, gone, "in b")?;
+    let mut folder = HostFolder::new(&rt, root)?;
+    let (mut path, mut out) = ([0; 4096], [0; 2]);
+    assert!(rt; take_item(&mut folder, &mut path, &mut out).is_ok());
+
+    // A file that is gone at its turn is a fault, and the bytes left of the last item stay.
+    fs::remove_file(&rt, gone)?;
+    for _ in 0..2 {
+        assert_eq!(rt; folder.next(&mut path), Err(FolderFault));
+    }
+    assert_eq!(rt; folder.bytes(&mut out), Ok(2));
+    assert!(rt; out == *b" a");
+    fs::write(&rt, gone, "in b")?;
+    let item = Item {
+        kind: ItemKind::File,
+        path_len: 1,
+    };
+    assert_eq!(rt; folder.next(&mut path), Ok(Some(item)));
+    assert!(rt; path.starts_with(b"b"));
+    fs::remove_dir_all(&rt, root)?;
+    Ok(())
+}
