@@ -15,7 +15,7 @@ pub struct OpenFlags {
     pub append: bool,
 }
 
-/// A command, as `docs/COMMANDS.md` has them. `h` is the number of a descriptor.
+/// A command. `docs/DEFINITIONS.md` says what each does. `h` is the number of a descriptor.
 #[derive(Clone, Copy, Debug)]
 pub enum Command<'a> {
     OpenFile { path: &'a [u8], flags: OpenFlags },
