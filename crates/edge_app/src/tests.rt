@@ -2,14 +2,17 @@ ghost use Rattle.std.specs.Prelude.{◌≡◌, [], ℕ, false};
 ghost use Rattle.edge_io.specs.MemorySink.{faults_of as sink_faults_of};
 ghost use Rattle.edge_io.specs.MemorySource.{faults_of as source_faults_of};
 
+mod formats;
+
 use super::*;
 use crate::lines::LineReader;
 use crate::session::{Ended, How, Limit, serve};
 use crate::volume::Volume;
 use edge_base::{Damage, DamageKind};
 use edge_disk::MemoryDisk;
-use edge_io::{MemorySink, MemorySource, Sink, SinkFault, Source, SourceFault};
+use edge_io::{MemoryClock, MemorySink, MemorySource, Sink, SinkFault, Source, SourceFault};
 use edge_nodes::seal;
+use edge_words::need;
 use std::alloc::{AllocError, Global};
 use std::process::Abort;
 use std::test::Fail;
@@ -138,6 +141,23 @@ const NONE: Fails = Fails {
     disk: &[],
 };
 
+// What words that ask for no other block size report over an image of blocks of 512 bytes.
+fn edge_over<S: Source, K: Sink>(
+    rt: &impl Abort,
+    alloc: Global,
+    words: &[&str],
+    source: &mut S,
+    sink: &mut K,
+    image: &[u8],
+    fails: &[u64],
+) -> Result<Report, AllocError> {
+    assert!(rt; image.len() < 65_536);
+    assert_eq!(rt; need(words).block_size, 512);
+    let mut clock = MemoryClock::new(alloc, &[0])?;
+    let disk = MemoryDisk::new(alloc, 512, image, 0, fails)?;
+    Ok(edge(alloc, words, source, sink, &mut clock, disk).report)
+}
+
 // What a run over an image reports, and the sink that it wrote to.
 fn run(
     rt: &impl Abort,
@@ -146,12 +166,11 @@ fn run(
     script: &[u8],
     fails: Fails,
 ) -> Result<(Report, MemorySink), AllocError> {
-    assert!(rt; image.len() < 65_536);
+    let words = ["run", "image"];
     let mut source = MemorySource::new(alloc, script, fails.source)?;
     let mut sink = MemorySink::new(alloc, 4096, fails.sink)?;
-    let disk = MemoryDisk::new(alloc, 512, image, 0, fails.disk)?;
-    let outcome = edge(alloc, &["run", "image"], &mut source, &mut sink, disk);
-    Ok((outcome.report, sink))
+    let report = edge_over(rt, alloc, &words, &mut source, &mut sink, image, fails.disk)?;
+    Ok((report, sink))
 }
 
 // A report with no reason and no damage.
@@ -229,7 +248,6 @@ fn each_failing_call_has_its_status(rt: HostRuntime) -> Result<(), Fail> {
 fn other_words_are_refused(rt: HostRuntime) -> Result<(), Fail> {
     let alloc = rt.alloc();
     let image = tiny(&rt, alloc, &[])?;
-    assert!(rt; image.len() < 65_536);
     let rows: [(&[&str], u8); 9] = [
         (&[], WORDS),
         (&["run"], WORDS),
@@ -244,14 +262,13 @@ fn other_words_are_refused(rt: HostRuntime) -> Result<(), Fail> {
     for (words, status) in rows {
         let mut source = MemorySource::new(alloc, b"x\n", &[])?;
         let mut sink = MemorySink::new(alloc, 64, &[])?;
-        let disk = MemoryDisk::new(alloc, 512, &image, 0, &[])?;
-        let outcome = edge(alloc, words, &mut source, &mut sink, disk);
+        let report = edge_over(&rt, alloc, words, &mut source, &mut sink, &image, &[])?;
         let (wanted, output) = if status == DONE {
             (plain(DONE, 1, 2), "bad\n")
         } else {
             (plain(status, 0, 0), "")
         };
-        assert_eq!(rt; outcome.report, wanted);
+        assert_eq!(rt; report, wanted);
         assert_eq!(rt; sink.taken(), output.as_bytes());
     }
     Ok(())
@@ -593,7 +610,6 @@ impl Sink for Drops {
 fn pieces_change_no_reply(rt: HostRuntime) -> Result<(), Fail> {
     let alloc = rt.alloc();
     let image = fresh(&rt, alloc)?;
-    assert!(rt; image.len() < 65_536);
     let script = script_of(
         alloc,
         "stat /\nx\nstat /\n\n",
@@ -606,10 +622,10 @@ fn pieces_change_no_reply(rt: HostRuntime) -> Result<(), Fail> {
         let mut source = Pieces { source, most };
         let sink = MemorySink::new(alloc, 4096, &[])?;
         let mut sink = Drops { sink };
-        let disk = MemoryDisk::new(alloc, 512, &image, 0, &[])?;
-        let outcome = edge(alloc, &["run", "image"], &mut source, &mut sink, disk);
+        let words = ["run", "image"];
+        let report = edge_over(&rt, alloc, &words, &mut source, &mut sink, &image, &[])?;
         let wanted = plain(DONE, 10, script.len() as u64);
-        assert_eq!(rt; outcome.report, wanted, "with {most}");
+        assert_eq!(rt; report, wanted, "with {most}");
         assert_eq!(rt; sink.sink.taken(), output.as_bytes(), "with {most}");
     }
     Ok(())
