@@ -1,5 +1,5 @@
 -- What a format that was begun makes of a disk, by what the formatter promises.
-use Rattle.std.proofs.Common.{◌≡◌, ℕ, Bool, true, false, List, inl, inr, Result, Ok, Err, sym, ◌∙◌, subst, arith}
+use Rattle.std.proofs.Common.{◌≡◌, ℕ, Bool, true, false, List, inl, inr, Result, Ok, Err, sym, subst, arith}
 use Rattle.std.specs.Prelude.{IsTrue, is_err, OnOk, OnErr}
 use Rattle.std.proofs.lemmas.Bool.{false≢true}
 use Rattle.edge_base.specs.declared.geometry.Request.{Request}

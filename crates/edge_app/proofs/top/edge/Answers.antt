@@ -1,4 +1,4 @@
-use Rattle.std.proofs.Common.{◌≡◌, ◌++◌, ℕ, inl, inr, ap, sym, subst, arith}
+use Rattle.std.proofs.Common.{◌≡◌, ◌++◌, inl, inr, ap, sym, subst, arith}
 use Rattle.edge_base.specs.declared.geometry.Request.{Request}
 use Rattle.edge_words.specs.Words.{words_of}
 use Rattle.edge_app.specs.declared.report.Report.{Report}
