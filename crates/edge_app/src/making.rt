@@ -2,6 +2,7 @@ ghost use Rattle.std.specs.Prelude.{◌≡◌, ◌⊎◌, ◌↔◌, ◌++◌, I
 ghost use Rattle.edge_base.specs.Faults.{Rose};
 ghost use Rattle.edge_app.specs.Making.{formatted_line, is_format_status, Made};
 ghost use Rattle.edge_app.specs.Orders.{IsUnfit};
+ghost use Rattle.edge_format.specs.Disk.{Keeps, IsBeside};
 ghost use Rattle.edge_app.specs.Part.{TookPart};
 
 use crate::report::{DEVICE, DONE, GEOMETRY, Outcome, Report, SINK};
@@ -65,6 +66,7 @@ pub fn format_image<K: Sink, C: Clock, D: Disk>(
     ensures line { IsTrue (K.tells out.old) → result.report.status ≡ 0 → K.taken out.new ≡ K.taken out.old ++ formatted_line request }
     ensures part { IsTrue (K.tells out.old) → result.report.status ≡ 4 → TookPart (formatted_line request) (K.taken out.old) (K.taken out.new) }
     ensures silent { (result.report.status ≡ 5) ⊎ (result.report.status ≡ 10) → K.taken out.new ≡ K.taken out.old }
+    ensures beside { Keeps (IsBeside request) (D.shown disk) (D.shown result.disk) (D.may_hold disk) (D.may_hold result.disk) (D.is_sure disk) (D.is_sure result.disk) }
     ensures made { (result.report.status ≡ 10 → ⊥) → Made request result.report.status (C.tells clock.old) (C.moments clock.old) (C.moments clock.new) (D.origin disk) (D.faults disk) (D.shown disk) (D.shown result.disk) (D.is_sure disk) (D.is_sure result.disk) (D.may_hold result.disk) }
 {
     let Some(geometry) = fitting(request, disk.blocks()) else {

@@ -12,6 +12,7 @@ ghost use Rattle.edge_words.specs.Orders.{Asked, Spells, block_size_of};
 ghost use Rattle.edge_app.specs.Making.{formatted_line, is_format_status, Made};
 ghost use Rattle.edge_app.specs.Mount.{IsUntouched};
 ghost use Rattle.edge_app.specs.Orders.{AsksRun, AsksFormat, AsksNoFormat, AsksNothing, IsUnfit};
+ghost use Rattle.edge_format.specs.Disk.{Keeps, IsBeside};
 ghost use Rattle.edge_app.specs.Part.{TookPart};
 ghost use Rattle.edge_app.specs.Report.{is_status, is_run_only, is_session, has_no_session, MeetsDamage, Served, Unserved};
 ghost use Rattle.edge_app.specs.Script.{HoldsLines, lines_of, replies_to, IsInLimits};
@@ -106,6 +107,7 @@ pub fn edge<S: Source, K: Sink, C: Clock, D: Disk>(
     ensures format_silent { (g : Request) → AsksFormat (words_of words.now) g → (result.report.status ≡ 5) ⊎ (result.report.status ≡ 10) → K.taken out.new ≡ K.taken out.old }
     ensures format_made { (g : Request) → AsksFormat (words_of words.now) g → (result.report.status ≡ 10 → ⊥)
         → Made g result.report.status (C.tells clock.old) (C.moments clock.old) (C.moments clock.new) (D.origin disk) (D.faults disk) (D.shown disk) (D.shown result.disk) (D.is_sure disk) (D.is_sure result.disk) (D.may_hold result.disk) }
+    ensures format_beside { (g : Request) → AsksFormat (words_of words.now) g → Keeps (IsBeside g) (D.shown disk) (D.shown result.disk) (D.may_hold disk) (D.may_hold result.disk) (D.is_sure disk) (D.is_sure result.disk) }
     ensures format_complete { (g : Request) → AsksFormat (words_of words.now) g → (IsUnfit g (D.origin disk).blocks → ⊥)
         → (Rose (K.faults out.old) (K.faults out.new) → ⊥) → (Rose (D.faults disk) (D.faults result.disk) → ⊥) → result.report.status ≡ 0 }
     ensures no_moment { AsksNoFormat (words_of words.now) ⊎ (result.report.status ≡ 10) → C.moments clock.new ≡ C.moments clock.old }

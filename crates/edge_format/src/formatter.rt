@@ -47,6 +47,7 @@ pub fn format<D: Disk>(
     ensures opens { IsSettled (D.origin disk.old) (D.is_sure disk.old) (D.faults disk.old)
         → OnOk result (EachPermitted (D.origin disk.new) (D.may_hold disk.new) (D.is_sure disk.new) (OpensFresh g time)) }
     ensures shown { IsTrue (D.origin disk.old).shows → OnOk result (OpensFresh g time (shown_image (D.origin disk.new) (D.shown disk.new))) }
+    ensures sure { IsSettled (D.origin disk.old) (D.is_sure disk.old) (D.faults disk.old) → OnOk result ((k : ℕ) → D.is_sure disk.new k) }
 
     // A cut after a fault may also leave the old image, or one without a master.
     ensures cut { IsSettled (D.origin disk.old) (D.is_sure disk.old) (D.faults disk.old)

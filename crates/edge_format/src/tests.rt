@@ -196,21 +196,24 @@ fn a_cut_leaves_the_old_image_or_no_volume_or_a_fresh_one(rt: HostRuntime) -> Re
     let Some(fresh) = permitted(alloc, &disk, &[0; 8])? else {
         return Err("no image".into());
     };
-    // The call that fails, and in how many images each block holds a candidate.
-    for (call, images) in [
-        (0, 2),
-        (1, 2),
-        (2, 2),
-        (3, 4),
-        (4, 8),
-        (5, 8),
-        (6, 2),
-        (7, 2),
+    // The call that fails, how many candidates the blocks 0 to 3 have then, and in how many images each
+    // block holds one of its own.
+    for (call, loose, images) in [
+        (0, [2, 1, 1, 1], 2),
+        (1, [2, 1, 1, 1], 2),
+        (2, [1, 1, 1, 2], 2),
+        (3, [1, 2, 1, 2], 4),
+        (4, [1, 2, 2, 2], 8),
+        (5, [1, 2, 2, 2], 8),
+        (6, [2, 1, 1, 1], 2),
+        (7, [2, 1, 1, 1], 2),
     ] {
         let mut disk = MemoryDisk::new(alloc, 512, &old, 3, &[call])?;
         let result = format(&mut disk, g, 0, &mut [0; 512]);
         assert_eq!(rt; result, Err(FormatFault::Device), "call {call}");
         assert_eq!(rt; disk.calls(), call + 1);
+        let counts = [disk.loose(0), disk.loose(1), disk.loose(2), disk.loose(3)];
+        assert_eq!(rt; counts, loose, "call {call}");
         assert_eq!(rt;
             judge_all(&rt, alloc, &disk, &old, &fresh)?,
             images,

@@ -1,4 +1,4 @@
-ghost use Rattle.std.specs.Prelude.{◌≡◌, ◌<◌, ◌^◌, IsTrue};
+ghost use Rattle.std.specs.Prelude.{◌≡◌, ◌<◌, ◌≤◌, ◌^◌, IsTrue, IfOk};
 ghost use Rattle.std.specs.Option.{ForNone};
 ghost use Rattle.edge_base.specs.Sizes.{is_block_size};
 
@@ -32,7 +32,9 @@ fn open_file(
     path: &str,
     made: bool,
     least: u64,
-) -> io::Result<(File, u64)> {
+) -> io::Result<(File, u64)>
+    ensures { IfOk result (λ opened. least ≤ opened.1) }
+{
     let mut file = OpenOptions::new()
         .read(true)
         .write(true)
@@ -51,7 +53,7 @@ fn open_file(
 }
 
 impl HostDisk {
-    ghost use Rattle.std.specs.Prelude.{◌*◌, IsNone};
+    ghost use Rattle.std.specs.Prelude.{◌*◌, ◌⊎◌, IfSome, IsNone};
     ghost use Rattle.edge_host.specs.HostDisk.{origin_of, faults_of};
 
     /// The disk over the file at `path`, which is opened once, or over no file. A file that cannot be
@@ -72,6 +74,7 @@ impl HostDisk {
         requires { IsTrue (is_block_size block_size) }
         ensures block_size { (origin_of result).block_size ≡ block_size }
         ensures no_file { IsNone path.entry → (origin_of result).blocks ≡ 0 }
+        ensures made { IfSome make_blocks (λ n. ((origin_of result).blocks ≡ 0) ⊎ (n ≤ (origin_of result).blocks)) }
         ensures faults { faults_of result ≡ 0 }
     {
         let least = u64::from(make_blocks.unwrap_or(0)) * u64::from(block_size);

@@ -230,4 +230,4 @@ opens_fresh g time image formatted =
       tree = only_root_is_tree g limits.some_inode usable_too.some_slots;
       stands = stands_for_root g (view_of g image (first_live g)) usable_too.some_slots empty;
     } in
-    record { opens = opens; master = refl; sequence = refl }
+    record { opens = opens; master = refl; sequence = refl; formatted = formatted }

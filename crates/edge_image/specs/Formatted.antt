@@ -57,3 +57,5 @@ pub record OpensFresh (g : Request) (time : ℕ) (image : Image) : Type 0 where
   pub opens : OpensTo image only_root
   pub master : opens.master ≡ master_of g time
   pub sequence : opens.live.root.sequence ≡ 1
+  -- its four blocks are the fresh ones
+  pub formatted : IsFormatted g time image

@@ -69,7 +69,7 @@ fn formats_what_fits(rt: HostRuntime) -> Result<(), Fail> {
     ] {
         let disk = blank(&rt, alloc, text, blocks)?;
         let mut sink = MemorySink::new(alloc, 64, &[])?;
-        let mut clock = MemoryClock::new(alloc, &[5, 9])?;
+        let mut clock = MemoryClock::new(alloc, &[5, 9, 13])?;
         let outcome = order(&rt, alloc, text, &mut sink, &mut clock, disk)?;
         assert_eq!(rt; outcome.report, plain(status, 0, 0), "{text}");
         assert_eq!(rt; sink.taken(), line.as_bytes(), "{text}");
@@ -108,7 +108,7 @@ fn what_is_formatted_opens(rt: HostRuntime) -> Result<(), Fail> {
         ("format I -n 64 -m 8", "run I"),
         ("format -b 4096 -n 64 -m 8 I", "run -b 4096 I"),
     ] {
-        let mut clock = MemoryClock::new(alloc, &[5, 9])?;
+        let mut clock = MemoryClock::new(alloc, &[5, 9, 13])?;
         let disk = blank(&rt, alloc, format, 64)?;
         let disk = format_at(&rt, alloc, format, &mut clock, disk, 5)?;
         let disk = format_at(&rt, alloc, format, &mut clock, disk, 9)?;

@@ -4,6 +4,7 @@ use Rattle.edge_words.specs.Words.{words_of}
 use Rattle.edge_app.specs.declared.report.Report.{Report}
 use Rattle.edge_app.specs.Making.{formatted_line, Made}
 use Rattle.edge_app.specs.Mount.{untouched}
+use Rattle.edge_format.specs.Disk.{Keeps, IsBeside}
 use Rattle.edge_app.specs.Orders.{AsksFormat, IsUnfit}
 use Rattle.edge_app.specs.Part.{TookPart}
 use Rattle.edge_app.proofs.OrderLaws.{asks_format, one_geometry, is_done}
@@ -89,3 +90,6 @@ returns-in-Format-clause-no_moment g c = λ none_or_ten. elim none_or_ten [
   | inl none ↦ absurd (none c.in-Format.request (asks g c))
   | inr ten ↦ c.format_image.ensures.no_moment ten
 ]
+
+pub returns-in-Format-clause-format_beside : goal.returns-in-Format-clause-format_beside
+returns-in-Format-clause-format_beside g c = λ h asked. subst (λ (k : Request). Keeps (IsBeside k) (g.D.Disk.shown c.args.disk) (g.D.Disk.shown c.format_image.result.disk) (g.D.Disk.may_hold c.args.disk) (g.D.Disk.may_hold c.format_image.result.disk) (g.D.Disk.is_sure c.args.disk) (g.D.Disk.is_sure c.format_image.result.disk)) (same g c h asked) c.format_image.ensures.beside
