@@ -26,6 +26,7 @@ module _ (g : Request) (tells : Bool) (moments_old moments_new : List ℕ) (time
     moment = moment;
     shown = λ shows written. absurd (not_written status five written);
     permitted = λ settled written. absurd (not_written status five written);
+    sure = λ settled written. absurd (not_written status five written);
     cut = λ settled _. subst (λ (k : Request). EachPlain origin may_new sure_new (IsOldOrFresh (shown_image origin shown_old) k time)) same
         (subst (λ (o : Origin). EachPlain o may_new sure_new (IsOldOrFresh (shown_image origin shown_old) h time)) same_origin (cut settled));
   }
@@ -34,12 +35,14 @@ module _ (g : Request) (tells : Bool) (moments_old moments_new : List ℕ) (time
       → (IsTrue tells → GivesMoment time moments_old moments_new)
       → (IsTrue origin.shows → OnOk r (OpensFresh h time (shown_image origin_new shown_new)))
       → (IsSettled origin sure_old faults → OnOk r (EachPermitted origin_new may_new sure_new (OpensFresh h time)))
+      → (IsSettled origin sure_old faults → OnOk r ((b : ℕ) → sure_new b))
       → Made g status tells moments_old moments_new origin faults shown_old shown_new sure_old sure_new may_new
-  made_after_ok (Err e) h origin_new status failed same same_origin written moment shown opens = absurd (false≢true (sym failed))
-  made_after_ok (Ok x) h origin_new status failed same same_origin written moment shown opens = record {
+  made_after_ok (Err e) h origin_new status failed same same_origin written moment shown opens sure = absurd (false≢true (sym failed))
+  made_after_ok (Ok x) h origin_new status failed same same_origin written moment shown opens sure = record {
     time = time;
     moment = moment;
     shown = λ shows _. subst (λ (k : Request). OpensFresh k time (shown_image origin shown_new)) same (subst (λ (o : Origin). OpensFresh h time (shown_image o shown_new)) same_origin (shown shows));
     permitted = λ settled _. subst (λ (k : Request). EachPermitted origin may_new sure_new (OpensFresh k time)) same (subst (λ (o : Origin). EachPermitted o may_new sure_new (OpensFresh h time)) same_origin (opens settled));
+    sure = λ settled _. sure settled;
     cut = λ settled five. absurd (not_written status five written);
   }

@@ -34,6 +34,10 @@ pub greatest_file_passes : Passes row.greatest_file
 unfolding run_of step judged outcome_of tree_positions plan_stat plan_fstat room_of plan_set_mask plan_open plan_close plan_seek plan_fsync plan_open_dir plan_read_dir plan_rewind plan_read plan_write plan_truncate plan_make_dir plan_link plan_unlink plan_remove_dir plan_rename
 greatest_file_passes = record { answers = refl; points = refl }
 
+pub greatest_size_passes : Passes row.greatest_size
+unfolding run_of step judged outcome_of tree_positions plan_stat plan_fstat room_of plan_set_mask plan_open plan_close plan_seek plan_fsync plan_open_dir plan_read_dir plan_rewind plan_read plan_write plan_truncate plan_make_dir plan_link plan_unlink plan_remove_dir plan_rename
+greatest_size_passes = record { answers = refl; points = refl }
+
 pub file_refusals_passes : Passes row.file_refusals
 unfolding run_of step judged outcome_of tree_positions plan_stat plan_fstat room_of plan_set_mask plan_open plan_close plan_seek plan_fsync plan_open_dir plan_read_dir plan_rewind plan_read plan_write plan_truncate plan_make_dir plan_link plan_unlink plan_remove_dir plan_rename
 file_refusals_passes = record { answers = refl; points = refl }

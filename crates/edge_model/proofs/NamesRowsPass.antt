@@ -30,6 +30,10 @@ pub moved_directory_passes : Passes row.moved_directory
 unfolding run_of step judged outcome_of tree_positions plan_stat plan_fstat room_of plan_set_mask plan_open plan_close plan_seek plan_fsync plan_open_dir plan_read_dir plan_rewind plan_read plan_write plan_truncate plan_make_dir plan_link plan_unlink plan_remove_dir plan_rename
 moved_directory_passes = record { answers = refl; points = refl }
 
+pub longest_names_passes : Passes row.longest_names
+unfolding run_of step judged outcome_of tree_positions plan_stat plan_fstat room_of plan_set_mask plan_open plan_close plan_seek plan_fsync plan_open_dir plan_read_dir plan_rewind plan_read plan_write plan_truncate plan_make_dir plan_link plan_unlink plan_remove_dir plan_rename
+longest_names_passes = record { answers = refl; points = refl }
+
 pub rename_in_one_directory_passes : Passes row.rename_in_one_directory
 unfolding run_of step judged outcome_of tree_positions plan_stat plan_fstat room_of plan_set_mask plan_open plan_close plan_seek plan_fsync plan_open_dir plan_read_dir plan_rewind plan_read plan_write plan_truncate plan_make_dir plan_link plan_unlink plan_remove_dir plan_rename
 rename_in_one_directory_passes = record { answers = refl; points = refl }

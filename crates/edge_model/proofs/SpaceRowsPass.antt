@@ -30,6 +30,18 @@ pub three_blocks_passes : Passes row.three_blocks
 unfolding run_of step judged outcome_of tree_positions plan_stat plan_fstat room_of plan_set_mask plan_open plan_close plan_seek plan_fsync plan_open_dir plan_read_dir plan_rewind plan_read plan_write plan_truncate plan_make_dir plan_link plan_unlink plan_remove_dir plan_rename
 three_blocks_passes = record { answers = refl; points = refl }
 
+pub volume_of_3843_passes : Passes row.volume_of_3843
+unfolding run_of step judged outcome_of tree_positions plan_stat plan_fstat room_of plan_set_mask plan_open plan_close plan_seek plan_fsync plan_open_dir plan_read_dir plan_rewind plan_read plan_write plan_truncate plan_make_dir plan_link plan_unlink plan_remove_dir plan_rename
+volume_of_3843_passes = record { answers = refl; points = refl }
+
+pub volume_of_3844_passes : Passes row.volume_of_3844
+unfolding run_of step judged outcome_of tree_positions plan_stat plan_fstat room_of plan_set_mask plan_open plan_close plan_seek plan_fsync plan_open_dir plan_read_dir plan_rewind plan_read plan_write plan_truncate plan_make_dir plan_link plan_unlink plan_remove_dir plan_rename
+volume_of_3844_passes = record { answers = refl; points = refl }
+
+pub volume_of_100000_passes : Passes row.volume_of_100000
+unfolding run_of step judged outcome_of tree_positions plan_stat plan_fstat room_of plan_set_mask plan_open plan_close plan_seek plan_fsync plan_open_dir plan_read_dir plan_rewind plan_read plan_write plan_truncate plan_make_dir plan_link plan_unlink plan_remove_dir plan_rename
+volume_of_100000_passes = record { answers = refl; points = refl }
+
 pub four_blocks_passes : Passes row.four_blocks
 unfolding run_of step judged outcome_of tree_positions plan_stat plan_fstat room_of plan_set_mask plan_open plan_close plan_seek plan_fsync plan_open_dir plan_read_dir plan_rewind plan_read plan_write plan_truncate plan_make_dir plan_link plan_unlink plan_remove_dir plan_rename
 four_blocks_passes = record { answers = refl; points = refl }

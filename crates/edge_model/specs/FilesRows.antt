@@ -120,6 +120,23 @@ greatest_file = record {
   points = 1;
 }
 
+-- the greatest file of the default geometry has 652,685,312 bytes
+abbrev pub greatest_size : Row
+greatest_size = record {
+  request = small;
+  tree = only_root;
+  exchanges =
+      says (ask.open_file (codes "/b") wc) (told (number 0)) ∷
+      says (ask.seek 0 652685312) (told done) ∷
+      says (ask.write 0 (1 ∷ [])) (no TooBig) ∷
+      says (ask.fill 0 1 65) (no TooBig) ∷
+      says (ask.seek 0 652685313) (no Invalid) ∷
+      says (ask.truncate 0 652685313) (no TooBig) ∷
+      says (ask.fstat 0) (told (stated 3 File 0 1)) ∷
+      [];
+  points = 1;
+}
+
 -- what a descriptor refuses
 abbrev pub file_refusals : Row
 file_refusals = record {

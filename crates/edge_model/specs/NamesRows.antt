@@ -5,7 +5,7 @@ use Rattle.edge_base.specs.declared.refusal.Refusal.TheVariants.{NoEntry, BadDes
 use Rattle.edge_model.specs.Asked as ask
 use Rattle.edge_model.specs.Asked.{done, number, bytes, end, entry}
 use Rattle.edge_model.specs.Tree.{only_root}
-use Rattle.edge_model.specs.Rows.{Row, says, told, no, stated, left, small, long_names, crowded, many_names, wc}
+use Rattle.edge_model.specs.Rows.{Row, says, told, no, stated, left, small, names_of_252, long_names, crowded, many_names, wc}
 
 -- numbers are given out from the least on
 abbrev pub inodes_run_out : Row
@@ -133,6 +133,24 @@ moved_directory = record {
       says (ask.stat (codes "/b/a")) (told (stated 3 Directory 0 1)) ∷
       says (ask.rename (codes "/b") (codes "/b/a/b")) (no Invalid) ∷
       says (ask.stat (codes "/")) (told (stated 2 Directory 512 1)) ∷
+      [];
+  points = 1;
+}
+
+-- a directory may be moved to where a path to its entries is too long
+abbrev pub longest_names : Row
+longest_names = record {
+  request = names_of_252;
+  tree = only_root;
+  exchanges =
+      says (ask.make_dir (codes "/a")) (told done) ∷
+      says (ask.make_dir (codes "/a/DDDDDDDDDDDDDDDDDDDDDDDDDDDDDDDDDDDDDDDDDDDDDDDDDDDDDDDDDDDDDDDDDDDDDDDDDDDDDDDDDDDDDDDDDDDDDDDDDDDDDDDDDDDDDDDDDDDDDDDDDDDDDDDDDDDDDDDDDDDDDDDDDDDDDDDDDDDDDDDDDDDDDDDDDDDDDDDDDDDDDDDDDDDDDDDDDDDDDDDDDDDDDDDDDDDDDDDDDDDDDDDDDDDDDDDDDDDDDDDDDDDDDDDDDD")) (told done) ∷
+      says (ask.make_dir (codes "/bbbbbbbbbb")) (told done) ∷
+      says (ask.rename (codes "/a") (codes "/bbbbbbbbbb/a")) (told done) ∷
+      says (ask.stat (codes "/")) (told (stated 2 Directory 512 1)) ∷
+      says (ask.stat (codes "/bbbbbbbbbb")) (told (stated 5 Directory 512 1)) ∷
+      says (ask.stat (codes "/bbbbbbbbbb/a")) (told (stated 3 Directory 512 1)) ∷
+      says (ask.stat (codes "/bbbbbbbbbb/a/DDDDDDDDDDDDDDDDDDDDDDDDDDDDDDDDDDDDDDDDDDDDDDDDDDDDDDDDDDDDDDDDDDDDDDDDDDDDDDDDDDDDDDDDDDDDDDDDDDDDDDDDDDDDDDDDDDDDDDDDDDDDDDDDDDDDDDDDDDDDDDDDDDDDDDDDDDDDDDDDDDDDDDDDDDDDDDDDDDDDDDDDDDDDDDDDDDDDDDDDDDDDDDDDDDDDDDDDDDDDDDDDDDDDDDDDDDDDDDDDDDDDDDDDDD")) (no NameTooLong) ∷
       [];
   points = 1;
 }

@@ -65,6 +65,18 @@ blocks_23 = record small { blocks = 23 }
 abbrev pub blocks_24 : Request
 blocks_24 = record small { blocks = 24 }
 
+abbrev pub blocks_3843 : Request
+blocks_3843 = record small { blocks = 3843 }
+
+abbrev pub blocks_3844 : Request
+blocks_3844 = record small { blocks = 3844 }
+
+abbrev pub blocks_100000 : Request
+blocks_100000 = record small { blocks = 100000 }
+
+abbrev pub names_of_252 : Request
+names_of_252 = record small { name_max = 252 }
+
 -- no pointer nodes: a node has at most 120 blocks
 abbrev pub direct_alone : Request
 direct_alone = record small { direct = 120; indirect = 0 }

@@ -5,7 +5,7 @@ use Rattle.edge_base.specs.declared.refusal.Refusal.TheVariants.{Exists, NoSpace
 use Rattle.edge_model.specs.Asked as ask
 use Rattle.edge_model.specs.Asked.{done, number, bytes, end, entry}
 use Rattle.edge_model.specs.Tree.{only_root}
-use Rattle.edge_model.specs.Rows.{Row, says, told, no, stated, left, small, blocks_22, blocks_23, blocks_24, w, wc}
+use Rattle.edge_model.specs.Rows.{Row, says, told, no, stated, left, small, blocks_22, blocks_23, blocks_24, blocks_3843, blocks_3844, blocks_100000, w, wc}
 
 -- growing commands leave three blocks
 abbrev pub full_volume : Row
@@ -96,6 +96,39 @@ three_blocks = record {
       says (ask.make_dir (codes "/a")) (no NoSpace) ∷
       says (ask.open_file (codes "/a") wc) (no NoSpace) ∷
       says ask.space (told (left 3 3 3 7 8)) ∷
+      [];
+  points = 1;
+}
+
+-- the room of larger volumes
+abbrev pub volume_of_3843 : Row
+volume_of_3843 = record {
+  request = blocks_3843;
+  tree = only_root;
+  exchanges =
+      says ask.space (told (left 3824 3824 3824 7 8)) ∷
+      [];
+  points = 1;
+}
+
+-- a pair of imap nodes takes two blocks
+abbrev pub volume_of_3844 : Row
+volume_of_3844 = record {
+  request = blocks_3844;
+  tree = only_root;
+  exchanges =
+      says ask.space (told (left 3823 3823 3823 7 8)) ∷
+      [];
+  points = 1;
+}
+
+-- and 26 pairs take 52
+abbrev pub volume_of_100000 : Row
+volume_of_100000 = record {
+  request = blocks_100000;
+  tree = only_root;
+  exchanges =
+      says ask.space (told (left 99929 99929 99929 7 8)) ∷
       [];
   points = 1;
 }

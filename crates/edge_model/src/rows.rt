@@ -1,9 +1,9 @@
 //! Worked scripts with their answers: each law says that a run gives what the rows of `specs/` tell.
 //! The definition of the step is computed; no code takes part.
 ghost use Rattle.edge_model.specs.PointsRows.{empty_script, fresh_volume, bad_lines, events, no_event, masks};
-ghost use Rattle.edge_model.specs.FilesRows.{sparse_file, cut_and_grown, cut_at_a_block, append, positions, greatest_file, file_refusals};
-ghost use Rattle.edge_model.specs.SpaceRows.{full_volume, one_byte_too_many, unlink_on_a_full_volume, point_on_a_full_volume, three_blocks, four_blocks, growth_without_a_block, dirty_blocks_are_free, rmdir_without_room};
-ghost use Rattle.edge_model.specs.NamesRows.{inodes_run_out, paths, long_paths, renames, moved_directory, rename_in_one_directory, rename_over, unlink_while_open, slots, removed_directories, links, greatest_directory, most_links};
+ghost use Rattle.edge_model.specs.FilesRows.{sparse_file, cut_and_grown, cut_at_a_block, append, positions, greatest_file, greatest_size, file_refusals};
+ghost use Rattle.edge_model.specs.SpaceRows.{full_volume, one_byte_too_many, unlink_on_a_full_volume, point_on_a_full_volume, three_blocks, volume_of_3843, volume_of_3844, volume_of_100000, four_blocks, growth_without_a_block, dirty_blocks_are_free, rmdir_without_room};
+ghost use Rattle.edge_model.specs.NamesRows.{inodes_run_out, paths, long_paths, renames, moved_directory, longest_names, rename_in_one_directory, rename_over, unlink_while_open, slots, removed_directories, links, greatest_directory, most_links};
 ghost use Rattle.edge_model.specs.DescriptorsRows.{sixteen_descriptors, flags, opened_and_emptied, directories_are_read};
 ghost use Rattle.edge_model.specs.Rows.{Passes, HasParent};
 
@@ -25,6 +25,7 @@ pub fn rows_of_files()
     ensures append { Passes append }
     ensures positions { Passes positions }
     ensures greatest_file { Passes greatest_file }
+    ensures greatest_size { Passes greatest_size }
     ensures file_refusals { Passes file_refusals }
 {}
 
@@ -35,6 +36,9 @@ pub fn rows_of_space()
     ensures unlink_on_a_full_volume { Passes unlink_on_a_full_volume }
     ensures point_on_a_full_volume { Passes point_on_a_full_volume }
     ensures three_blocks { Passes three_blocks }
+    ensures volume_of_3843 { Passes volume_of_3843 }
+    ensures volume_of_3844 { Passes volume_of_3844 }
+    ensures volume_of_100000 { Passes volume_of_100000 }
     ensures four_blocks { Passes four_blocks }
     ensures growth_without_a_block { Passes growth_without_a_block }
     ensures dirty_blocks_are_free { Passes dirty_blocks_are_free }
@@ -48,6 +52,7 @@ pub fn rows_of_names()
     ensures long_paths { Passes long_paths }
     ensures renames { Passes renames }
     ensures moved_directory { Passes moved_directory }
+    ensures longest_names { Passes longest_names }
     ensures rename_in_one_directory { Passes rename_in_one_directory }
     ensures rename_over { Passes rename_over }
     ensures unlink_while_open { Passes unlink_while_open }

@@ -13,4 +13,4 @@ pub returns-clause-made : goal.returns-clause-made
 returns-clause-made g c = λ _. made_after_ok _ _ _ _ c.now-time.result _ _ _ _ _ _ _ c.format.result c.in-Some.geometry (g.D.Disk.origin c.format.new.disk) _
     (sym c.is_err.ensures.value ∙ c.if-is_err.false) c.in-Some.ensures.same c.format.ensures.origin
     (subst (λ (n : ℕ). IsWritten n) (sym (ap (λ (r : Report). r.status) c.unserved-2.ensures)) (elim c.match-write_all.branch [ in-Ok w ↦ inl w.status-is | in-Err w ↦ inr w.status-is ]))
-    c.now-time.ensures.given c.format.ensures.shown c.format.ensures.opens
+    c.now-time.ensures.given c.format.ensures.shown c.format.ensures.opens c.format.ensures.sure

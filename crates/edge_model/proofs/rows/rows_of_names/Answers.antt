@@ -1,4 +1,4 @@
-use Rattle.edge_model.proofs.NamesRowsPass.{inodes_run_out_passes, paths_passes, long_paths_passes, renames_passes, moved_directory_passes, rename_in_one_directory_passes, rename_over_passes, unlink_while_open_passes, slots_passes, removed_directories_passes, links_passes, greatest_directory_passes, most_links_passes, new_parent_holds}
+use Rattle.edge_model.proofs.NamesRowsPass.{inodes_run_out_passes, paths_passes, long_paths_passes, renames_passes, moved_directory_passes, longest_names_passes, rename_in_one_directory_passes, rename_over_passes, unlink_while_open_passes, slots_passes, removed_directories_passes, links_passes, greatest_directory_passes, most_links_passes, new_parent_holds}
 use Rattle.edge_model.proofs.rows.rows_of_names.Goals as goal
 
 pub returns-clause-inodes_run_out : goal.returns-clause-inodes_run_out
@@ -15,6 +15,9 @@ returns-clause-renames c = renames_passes
 
 pub returns-clause-moved_directory : goal.returns-clause-moved_directory
 returns-clause-moved_directory c = moved_directory_passes
+
+pub returns-clause-longest_names : goal.returns-clause-longest_names
+returns-clause-longest_names c = longest_names_passes
 
 pub returns-clause-rename_in_one_directory : goal.returns-clause-rename_in_one_directory
 returns-clause-rename_in_one_directory c = rename_in_one_directory_passes

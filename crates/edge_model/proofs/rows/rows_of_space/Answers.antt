@@ -1,4 +1,4 @@
-use Rattle.edge_model.proofs.SpaceRowsPass.{full_volume_passes, one_byte_too_many_passes, unlink_on_a_full_volume_passes, point_on_a_full_volume_passes, three_blocks_passes, four_blocks_passes, growth_without_a_block_passes, dirty_blocks_are_free_passes, rmdir_without_room_passes}
+use Rattle.edge_model.proofs.SpaceRowsPass.{full_volume_passes, one_byte_too_many_passes, unlink_on_a_full_volume_passes, point_on_a_full_volume_passes, three_blocks_passes, volume_of_3843_passes, volume_of_3844_passes, volume_of_100000_passes, four_blocks_passes, growth_without_a_block_passes, dirty_blocks_are_free_passes, rmdir_without_room_passes}
 use Rattle.edge_model.proofs.rows.rows_of_space.Goals as goal
 
 pub returns-clause-full_volume : goal.returns-clause-full_volume
@@ -15,6 +15,15 @@ returns-clause-point_on_a_full_volume c = point_on_a_full_volume_passes
 
 pub returns-clause-three_blocks : goal.returns-clause-three_blocks
 returns-clause-three_blocks c = three_blocks_passes
+
+pub returns-clause-volume_of_3843 : goal.returns-clause-volume_of_3843
+returns-clause-volume_of_3843 c = volume_of_3843_passes
+
+pub returns-clause-volume_of_3844 : goal.returns-clause-volume_of_3844
+returns-clause-volume_of_3844 c = volume_of_3844_passes
+
+pub returns-clause-volume_of_100000 : goal.returns-clause-volume_of_100000
+returns-clause-volume_of_100000 c = volume_of_100000_passes
 
 pub returns-clause-four_blocks : goal.returns-clause-four_blocks
 returns-clause-four_blocks c = four_blocks_passes
