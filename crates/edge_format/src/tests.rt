@@ -186,6 +186,19 @@ fn judge_all(
     Ok(count)
 }
 
+// The call that fails, how many candidates the blocks 0 to 3 have then, and in how many images each block
+// holds one of its own.
+const FAILING: [(u64, [u32; 4], u32); 8] = [
+    (0, [2, 1, 1, 1], 2),
+    (1, [2, 1, 1, 1], 2),
+    (2, [1, 1, 1, 2], 2),
+    (3, [1, 2, 1, 2], 4),
+    (4, [1, 2, 2, 2], 8),
+    (5, [1, 2, 2, 2], 8),
+    (6, [2, 1, 1, 1], 2),
+    (7, [2, 1, 1, 1], 2),
+];
+
 #[test]
 fn a_cut_leaves_the_old_image_or_no_volume_or_a_fresh_one(rt: HostRuntime) -> Result<(), Fail> {
     let alloc = rt.alloc();
@@ -196,18 +209,7 @@ fn a_cut_leaves_the_old_image_or_no_volume_or_a_fresh_one(rt: HostRuntime) -> Re
     let Some(fresh) = permitted(alloc, &disk, &[0; 8])? else {
         return Err("no image".into());
     };
-    // The call that fails, how many candidates the blocks 0 to 3 have then, and in how many images each
-    // block holds one of its own.
-    for (call, loose, images) in [
-        (0, [2, 1, 1, 1], 2),
-        (1, [2, 1, 1, 1], 2),
-        (2, [1, 1, 1, 2], 2),
-        (3, [1, 2, 1, 2], 4),
-        (4, [1, 2, 2, 2], 8),
-        (5, [1, 2, 2, 2], 8),
-        (6, [2, 1, 1, 1], 2),
-        (7, [2, 1, 1, 1], 2),
-    ] {
+    for (call, loose, images) in FAILING {
         let mut disk = MemoryDisk::new(alloc, 512, &old, 3, &[call])?;
         let result = format(&mut disk, g, 0, &mut [0; 512]);
         assert_eq!(rt; result, Err(FormatFault::Device), "call {call}");

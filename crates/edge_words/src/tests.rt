@@ -57,47 +57,48 @@ fn reads_orders(rt: HostRuntime) -> Result<(), Fail> {
     Ok(())
 }
 
-// Every word list here is one that spells no order.
+// Words that spell no order.
+const REFUSED: [&str; 34] = [
+    "",
+    "run",
+    "run ",
+    "run I J",
+    "run I ",
+    "run I -b",
+    "run -b 512",
+    "run I -b 513",
+    "run I -b 8192",
+    "run I -b 0512",
+    "run I -b +512",
+    "run I -b 512 -b 512",
+    "run I -b=512",
+    "run I -n 64",
+    "run I --",
+    "run -- I",
+    "run -I",
+    "Run I",
+    "help I",
+    "I run",
+    "format I",
+    "format I -n 64",
+    "format I -m 8",
+    "format -n 64 -m 8",
+    "format I J -n 64 -m 8",
+    "format I -n 64 -m 8 -n 64",
+    "format I -n 64 -m 8 -x 1",
+    "format I -n 064 -m 8",
+    "format I -n +64 -m 8",
+    "format I -n -64 -m 8",
+    "format I -n 0x40 -m 8",
+    "format I -n  -m 8",
+    "format I -n 4294967296 -m 8",
+    "format I -n 64 -m",
+];
+
 #[test]
 fn refuses_other_words(rt: HostRuntime) -> Result<(), Fail> {
-    let refused = [
-        "",
-        "run",
-        "run ",
-        "run I J",
-        "run I ",
-        "run I -b",
-        "run -b 512",
-        "run I -b 513",
-        "run I -b 8192",
-        "run I -b 0512",
-        "run I -b +512",
-        "run I -b 512 -b 512",
-        "run I -b=512",
-        "run I -n 64",
-        "run I --",
-        "run -- I",
-        "run -I",
-        "Run I",
-        "help I",
-        "I run",
-        "format I",
-        "format I -n 64",
-        "format I -m 8",
-        "format -n 64 -m 8",
-        "format I J -n 64 -m 8",
-        "format I -n 64 -m 8 -n 64",
-        "format I -n 64 -m 8 -x 1",
-        "format I -n 064 -m 8",
-        "format I -n +64 -m 8",
-        "format I -n -64 -m 8",
-        "format I -n 0x40 -m 8",
-        "format I -n  -m 8",
-        "format I -n 4294967296 -m 8",
-        "format I -n 64 -m",
-    ];
     assert_eq!(rt; read_words(&[]), Err(BadWords));
-    for text in refused {
+    for text in REFUSED {
         let words: Vec<&str> = text.split(' ').collect(rt.alloc())?;
         assert_eq!(rt; read_words(&words), Err(BadWords), "{text}");
         assert_eq!(rt; need(&words), attached(None, 512, None), "{text}");
