@@ -7,9 +7,9 @@ use Rattle.edge_base.specs.declared.geometry.Request.{Request}
 use Rattle.edge_base.specs.declared.node.Master.{Master}
 use Rattle.edge_base.specs.declared.node.Metaroot.{Metaroot}
 use Rattle.edge_base.specs.declared.node.NodeFault.{NodeFault}
-use Rattle.edge_base.specs.Places.{is_inline_of}
-use Rattle.edge_base.specs.Sizes.{node_bits}
-use Rattle.edge_base.specs.Spelling.{master_in, metaroot_in}
+use Rattle.edge_base.specs.layout.Places.{is_inline_of}
+use Rattle.edge_base.specs.layout.Sizes.{node_bits}
+use Rattle.edge_base.specs.layout.Spelling.{master_in, metaroot_in}
 use Rattle.edge_disk.specs.Image.{Image}
 use Rattle.edge_image.specs.Image.{Live, live_of, live_among, reason_of, reason_of_master, reason_of_live, reason_of_counts, has_bad_imap, spells_imap, imap_block_of}
 use Rattle.edge_app.specs.Live.{live_bytes, FindsLive}

@@ -4,7 +4,7 @@ use Rattle.std.specs.Fmt.{digits}
 use Rattle.std.specs.Prelude.{fold, codes, decimal, unwrap_or, if◌then◌else◌}
 use Rattle.std.specs.List.{flat_map}
 use Rattle.edge_base.specs.declared.geometry.Request.{Request}
-use Rattle.edge_base.specs.Nodes.{Node, file, kind_of, size_of}
+use Rattle.edge_base.specs.tree.Nodes.{Node, file, kind_of, size_of}
 use Rattle.edge_model.specs.Asked.{stat}
 use Rattle.edge_model.specs.Tree.{Tree, links_of}
 use Rattle.edge_model.specs.State.{State, judged, outcome_of}

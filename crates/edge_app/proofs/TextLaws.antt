@@ -5,7 +5,7 @@ use Rattle.std.proofs.lemmas.List.{length-append, take_more}
 use Rattle.std.proofs.lemmas.List.Concat.{flat_map-append}
 use Rattle.std.proofs.Math.Seq.{take-append-add}
 use Rattle.edge_base.specs.declared.geometry.Request.{Request}
-use Rattle.edge_base.specs.Nodes.{Node, directory}
+use Rattle.edge_base.specs.tree.Nodes.{Node, directory}
 use Rattle.edge_disk.specs.Image.{Image}
 use Rattle.edge_model.specs.Tree.{Tree}
 use Rattle.edge_model.specs.Run.{run_of}

@@ -5,7 +5,7 @@ use Rattle.std.proofs.Math.Seq.{take-append-add}
 use Rattle.edge_base.specs.declared.geometry.Request.{Request}
 use Rattle.edge_base.specs.declared.node.Head.{Head}
 use Rattle.edge_base.specs.declared.node.Master.{Master}
-use Rattle.edge_base.specs.Places.{inode_place_of}
+use Rattle.edge_base.specs.layout.Places.{inode_place_of}
 use Rattle.edge_disk.specs.Disk.{Origin}
 use Rattle.edge_disk.specs.Image.{Image, shown_image}
 use Rattle.edge_image.specs.Image.{Live, live_of, is_used, used_place, place_of, head_of, head_told, head_by, root_number}

@@ -1,7 +1,7 @@
 -- What a format prints, and what it makes of a disk.
 use Rattle.std.specs.Prelude.{◌≡◌, ◌⊎◌, ℕ, ◌==◌, ◌||◌, Bool, IsTrue, List, ◌++◌, codes, decimal}
 use Rattle.edge_base.specs.declared.geometry.Request.{Request}
-use Rattle.edge_base.specs.Places.{allocable_of}
+use Rattle.edge_base.specs.layout.Places.{allocable_of}
 use Rattle.edge_disk.specs.Disk.{Origin}
 use Rattle.edge_disk.specs.Image.{shown_image}
 use Rattle.edge_io.specs.Moments.{GivesMoment}

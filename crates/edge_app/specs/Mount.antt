@@ -1,11 +1,12 @@
 -- What mounting finds.
 use Rattle.std.specs.Prelude.{◌≡◌, ◌≤◌, ◌^◌, ℕ, nat_lt, if◌then◌else◌, List, Option, Some, None, Ok, refl}
 use Rattle.std.proofs.Common.{◌∙◌}
+use Rattle.edge_base.specs.outside.Below.{SameBelow}
 use Rattle.edge_base.specs.declared.geometry.Request.{Request}
 use Rattle.edge_base.specs.declared.node.Master.{Master}
 use Rattle.edge_base.specs.declared.node.Metaroot.{Metaroot}
-use Rattle.edge_base.specs.Spelling.{master_in}
-use Rattle.edge_disk.specs.Disk.{Origin, SameCandidates}
+use Rattle.edge_base.specs.layout.Spelling.{master_in}
+use Rattle.edge_disk.specs.Disk.{Origin}
 use Rattle.edge_disk.specs.Image.{Image}
 use Rattle.edge_image.specs.Image.{Live, live_of, reason_of_counts, reason_of}
 use Rattle.edge_app.specs.Live.{live_bytes}
@@ -16,7 +17,7 @@ use Rattle.edge_app.specs.declared.mount.Mounted.TheVariants.{NotVolume, Volume}
 pub record IsUntouched (origin_old origin_new : Origin) (shown_old shown_new : ℕ → List ℕ) (may_old may_new : ℕ → List ℕ → Type 0) (sure_old sure_new : ℕ → Type 0) : Type 0 where
   pub origin : origin_new ≡ origin_old
   pub shown : shown_new ≡ shown_old
-  pub candidates : SameCandidates may_old may_new sure_old sure_new
+  pub candidates : SameBelow may_old may_new sure_old sure_new
 
 -- no call changes nothing, and neither do two such calls
 pub untouched : {origin : Origin} {shown : ℕ → List ℕ} {may : ℕ → List ℕ → Type 0} {sure : ℕ → Type 0} → IsUntouched origin origin shown shown may may sure sure

@@ -1,7 +1,7 @@
 -- What the words ask for.
 use Rattle.std.specs.Prelude.{◌≢◌, ◌⊎◌, ◌<◌, ℕ, List, None}
 use Rattle.edge_base.specs.declared.geometry.Request.{Request}
-use Rattle.edge_base.specs.Places.{bad_geometry}
+use Rattle.edge_base.specs.layout.Places.{bad_geometry}
 use Rattle.edge_words.specs.Words.{Word}
 use Rattle.edge_words.specs.Orders.{Asked, Run, Format, Spells}
 

@@ -1,6 +1,6 @@
 -- What a volume keeps of its image.
 use Rattle.std.specs.Prelude.{◌≡◌, ℕ, Option, Some, Result, Ok, Err}
-use Rattle.edge_base.specs.Faults.{Rose}
+use Rattle.edge_base.specs.outside.Faults.{Rose}
 use Rattle.edge_base.specs.declared.damage.Damage.{Damage}
 use Rattle.edge_app.specs.declared.volume.MountFault.{MountFault}
 use Rattle.edge_app.specs.declared.volume.MountFault.TheVariants as mounts

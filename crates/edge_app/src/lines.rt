@@ -1,6 +1,6 @@
 ghost use Rattle.std.specs.Prelude.{◌≡◌, ◌+◌, ◌-◌, ◌<◌, ◌≤◌, ◌++◌, ◌^◌, [], length, take, vec_len, IsTrue, IfOk, OnOk, OnErr, true, false, Ok, drop, position};
 ghost use Rattle.edge_app.specs.Feeds.{is_line_feed};
-ghost use Rattle.edge_base.specs.Faults.{HasCause};
+ghost use Rattle.edge_base.specs.outside.Faults.{HasCause};
 
 use edge_io::{Source, SourceFault};
 use std::alloc::{AllocError, Global};

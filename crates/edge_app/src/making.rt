@@ -1,5 +1,5 @@
 ghost use Rattle.std.specs.Prelude.{◌≡◌, ◌⊎◌, ◌↔◌, ◌++◌, IsTrue, None, IfSome};
-ghost use Rattle.edge_base.specs.Faults.{Rose};
+ghost use Rattle.edge_base.specs.outside.Faults.{Rose};
 ghost use Rattle.edge_app.specs.Making.{formatted_line, is_format_status, Made};
 ghost use Rattle.edge_app.specs.Orders.{IsUnfit};
 ghost use Rattle.edge_format.specs.Disk.{Keeps, IsBeside};

@@ -1,11 +1,11 @@
 ghost use Rattle.std.specs.Prelude.{◌≡◌, ◌+◌, ◌<◌, ◌≤◌, ◌^◌, ℕ, length, IsTrue, IfOk};
-ghost use Rattle.edge_base.specs.Faults.{HasCause};
-ghost use Rattle.edge_base.specs.Places.{table_start_of};
-ghost use Rattle.edge_base.specs.Spelling.{metaroot_in};
+ghost use Rattle.edge_base.specs.outside.Below.{SameBelow};
+ghost use Rattle.edge_base.specs.outside.Faults.{HasCause};
+ghost use Rattle.edge_base.specs.layout.Places.{table_start_of};
+ghost use Rattle.edge_base.specs.layout.Spelling.{metaroot_in};
 ghost use Rattle.edge_disk.specs.Image.{shown_image};
 ghost use Rattle.edge_image.specs.Image.{live_among, is_used, is_free, free_blocks_of, free_inodes_of};
 ghost use Rattle.std.specs.Prelude.{Some, None};
-ghost use Rattle.edge_disk.specs.Disk.{SameCandidates};
 ghost use Rattle.edge_app.specs.Mount.{IsUntouched, Mounts, MountsWhole, Judges, reason_inline};
 ghost use Rattle.edge_app.specs.Live.{FindsLive};
 

@@ -1,5 +1,5 @@
 ghost use Rattle.std.specs.Prelude.{◌≡◌, ◌⊎◌, ◌≤◌, ◌++◌, [], IsTrue, OnOk, OnErr, Some, None, Err, true, false};
-ghost use Rattle.edge_base.specs.Faults.{HasCause};
+ghost use Rattle.edge_base.specs.outside.Faults.{HasCause};
 ghost use Rattle.edge_app.specs.Feeds.{SeesEnd};
 ghost use Rattle.edge_app.specs.Part.{TookPart};
 ghost use Rattle.edge_base.specs.declared.damage.Damage.{Damage};

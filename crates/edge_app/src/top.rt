@@ -1,5 +1,5 @@
 ghost use Rattle.std.specs.Prelude.{◌≡◌, ◌<◌, ◌≤◌, ◌⊎◌, ◌↔◌, ◌++◌, [], ℕ, take, IsTrue, None, Some};
-ghost use Rattle.edge_base.specs.Faults.{Rose};
+ghost use Rattle.edge_base.specs.outside.Faults.{Rose};
 ghost use Rattle.edge_base.specs.declared.geometry.Request.{Request};
 ghost use Rattle.edge_base.specs.declared.node.Head.{Head};
 ghost use Rattle.edge_disk.specs.Image.{Image, shown_image, IsPermitted, IsPlain};

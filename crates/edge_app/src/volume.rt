@@ -1,9 +1,9 @@
 ghost use Rattle.std.specs.Prelude.{◌≡◌, ◌+◌, ◌<◌, ◌≤◌, ℕ, length, vec_len, IsTrue, MatchResult, IfOk, Bool, Result};
 ghost use Rattle.edge_base.specs.declared.damage.Damage.{Damage};
 ghost use Rattle.edge_base.specs.declared.node.Head.{Head};
-ghost use Rattle.edge_base.specs.Spelling.{inode_in};
-ghost use Rattle.edge_base.specs.Faults.{Rose};
-ghost use Rattle.edge_disk.specs.Disk.{SameCandidates};
+ghost use Rattle.edge_base.specs.layout.Spelling.{inode_in};
+ghost use Rattle.edge_base.specs.outside.Below.{SameBelow};
+ghost use Rattle.edge_base.specs.outside.Faults.{Rose};
 ghost use Rattle.edge_disk.specs.Image.{shown_image};
 ghost use Rattle.edge_image.specs.Image.{place_of, head_told, head_of, root_number, kind_of, reason_of};
 ghost use Rattle.edge_app.specs.Mount.{IsUntouched, IsVolume, untouched, untouched-twice};

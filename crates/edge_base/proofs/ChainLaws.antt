@@ -7,9 +7,9 @@ use Rattle.std.proofs.lemmas.Bool.Decides.{nat_tests}
 use Rattle.edge_base.specs.declared.form.Form.{Form}
 use Rattle.edge_base.specs.declared.form.Form.TheVariants.{Plain, Indirect, Double}
 use Rattle.edge_base.specs.declared.geometry.Request.{Request}
-use Rattle.edge_base.specs.Places.{pointers_of}
-use Rattle.edge_base.specs.Positions.{Position, same_position, indirect_at, double_at, above_data, chain, positions_of, has}
-use Rattle.edge_base.specs.Chains.{is_on_chain}
+use Rattle.edge_base.specs.layout.Places.{pointers_of}
+use Rattle.edge_base.specs.tree.Positions.{Position, same_position, indirect_at, double_at, above_data, chain, positions_of, has}
+use Rattle.edge_base.specs.tree.Chains.{is_on_chain}
 use Rattle.edge_base.proofs.PositionLaws.{has-flat_map}
 
 any_above : (f : Position → Bool) (direct single : Bool) (x y : Position) → list_any f (cond direct [] (x ∷ cond single [] (y ∷ []))) ≡ (not direct && (f x || (not single && f y)))

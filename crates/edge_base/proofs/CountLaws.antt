@@ -9,8 +9,8 @@ use Rattle.std.proofs.lemmas.List.FromFn.{length-range_with_len}
 use Rattle.std.proofs.lemmas.List.Filters.{length-filter_both}
 use Rattle.std.proofs.lemmas.List.Sums.{length-filter}
 use Rattle.std.proofs.lemmas.Map.Made.{length-from_keys, is_member-filter}
-use Rattle.edge_base.specs.Positions.{Position, same_position, has, count_of}
-use Rattle.edge_base.specs.Counting.{LeadTo}
+use Rattle.edge_base.specs.tree.Positions.{Position, same_position, has, count_of}
+use Rattle.edge_base.specs.tree.Counting.{LeadTo}
 use Rattle.edge_base.proofs.SetLaws.{none_equal, distinct_count-map}
 use Rattle.edge_base.proofs.PositionLaws.{same_position_Decides, same_position_equiv}
 

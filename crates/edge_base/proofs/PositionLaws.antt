@@ -8,7 +8,7 @@ use Rattle.std.proofs.lemmas.List.Folds.{list_any-append}
 use Rattle.std.proofs.lemmas.Map.Made.{is_member-filter, is_member-Decides}
 use Rattle.edge_base.specs.declared.form.Form.{Form}
 use Rattle.edge_base.specs.declared.form.Form.TheVariants.{Plain, Indirect, Double}
-use Rattle.edge_base.specs.Positions.{Position, same_form, same_position, has, count_of}
+use Rattle.edge_base.specs.tree.Positions.{Position, same_form, same_position, has, count_of}
 use Rattle.edge_base.proofs.SetLaws.{is_member-flat_map, distinct_count-le_from_members, distinct_count-from_members, distinct_count-append}
 
 -- ---- equal positions

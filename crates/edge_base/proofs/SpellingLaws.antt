@@ -5,9 +5,9 @@ use Rattle.std.proofs.lemmas.Bool.{eqb-true, eq-eqb}
 use Rattle.edge_base.specs.declared.geometry.Request.{Request}
 use Rattle.edge_base.specs.declared.node.NodeFault.{NodeFault}
 use Rattle.edge_base.specs.declared.node.NodeFault.TheVariants.{WrongSignature, WrongWord, WrongField}
-use Rattle.edge_base.specs.Word.{check_word_of}
-use Rattle.edge_base.specs.Bytes.{number_at, signature_in}
-use Rattle.edge_base.specs.Spelling.{pointer_signature, SpellsPointer, PointerNode, is_owner, pointer_fields, pointer_in}
+use Rattle.edge_base.specs.layout.Word.{check_word_of}
+use Rattle.edge_base.specs.layout.Bytes.{number_at, signature_in}
+use Rattle.edge_base.specs.layout.Spelling.{pointer_signature, SpellsPointer, PointerNode, is_owner, pointer_fields, pointer_in}
 
 -- three tests in a row, each with its fault
 abbrev tested : Bool → Bool → Bool → PointerNode → Result PointerNode NodeFault

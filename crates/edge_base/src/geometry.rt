@@ -1,5 +1,5 @@
 ghost use Rattle.std.specs.Prelude.{◌≡◌, ℕ, ◌+◌, ◌-◌, ◌*◌, ◌^◌, ◌<◌, ◌≤◌, false, None, Some, MatchResult, IsTrue};
-ghost use Rattle.edge_base.specs.Sizes.{is_block_size, fits_inline, node_bits, pairs_for, place_of};
+ghost use Rattle.edge_base.specs.layout.Sizes.{is_block_size, fits_inline, node_bits, pairs_for, place_of};
 
 use crate::way::Way;
 use std::marker::Model;
@@ -43,7 +43,7 @@ pub struct Geometry {
 
 impl Model for Geometry {
     ghost use Rattle.edge_base.specs.declared.geometry.Request.{Request};
-    ghost use Rattle.edge_base.specs.Places.{IsWithinLimits};
+    ghost use Rattle.edge_base.specs.layout.Places.{IsWithinLimits};
 
     ghost Value = { Request };
 
@@ -55,7 +55,7 @@ impl Model for Geometry {
 }
 
 impl Geometry {
-    ghost use Rattle.edge_base.specs.Places.{bad_geometry, is_inline_of, imap_nodes_of, HaveRoom, imap_place_of, table_start_of, inode_place_of, first_allocable_of, allocable_of, max_blocks_of, max_size_of, way_of, IsWithinNodes, IsGeometry, IsWithinLimits};
+    ghost use Rattle.edge_base.specs.layout.Places.{bad_geometry, is_inline_of, imap_nodes_of, HaveRoom, imap_place_of, table_start_of, inode_place_of, first_allocable_of, allocable_of, max_blocks_of, max_size_of, way_of, IsWithinNodes, IsGeometry, IsWithinLimits};
 
     /// The geometry of a request, or the first limit that it breaks.
     #[tactic(auto, unfolding(crate::specs::Places::bad_geometry))]

@@ -3,11 +3,11 @@
 ghost use Rattle.std.specs.Prelude.{◌≡◌, ◌↔◌, ◌≤◌, ℕ, ◌+◌, ◌==◌, ◌&&◌, not, Bool, true, false, List, ◌++◌, length, filter, count_by, Ok};
 ghost use Rattle.std.specs.List.{list_any, range_with_len};
 ghost use Rattle.edge_base.specs.declared.geometry.Request.{Request};
-ghost use Rattle.edge_base.specs.Bytes.{number_at};
-ghost use Rattle.edge_base.specs.Chains.{is_on_chain};
-ghost use Rattle.edge_base.specs.Counting.{LeadTo};
-ghost use Rattle.edge_base.specs.Positions.{Position, same_position, has, count_of, positions_of};
-ghost use Rattle.edge_base.specs.Spelling.{PointerNode, SpellsPointer, pointer_in};
+ghost use Rattle.edge_base.specs.layout.Bytes.{number_at};
+ghost use Rattle.edge_base.specs.tree.Chains.{is_on_chain};
+ghost use Rattle.edge_base.specs.tree.Counting.{LeadTo};
+ghost use Rattle.edge_base.specs.tree.Positions.{Position, same_position, has, count_of, positions_of};
+ghost use Rattle.edge_base.specs.layout.Spelling.{PointerNode, SpellsPointer, pointer_in};
 
 /// Reading answers a pointer node exactly where the block spells it.
 pub fn reads_the_spelled_pointer_node()

@@ -8,7 +8,7 @@ use Rattle.std.proofs.lemmas.Option.{slice_get-map, unwrap_or-slice_get}
 use Rattle.std.proofs.lemmas.Slice.{between_is}
 use Rattle.std.specs.Prelude.{Contains, IsTrue}
 use Rattle.edge_disk.specs.declared.slot.Slot.{Slot}
-use Rattle.edge_base.specs.Sizes.{is_block_size}
+use Rattle.edge_base.specs.layout.Sizes.{is_block_size}
 use Rattle.edge_disk.specs.CandidateLaws.{candidate_length}
 use Rattle.edge_disk.specs.declared.memory.MemoryDisk.{MemoryDisk}
 use Rattle.edge_disk.specs.Image.{image_in, IsPermitted, IsPlain}

@@ -46,10 +46,3 @@ pub record SureAfterFlush {T E : Type 0} (origin : Origin) (result : Result T E)
   pub stays : (k : ℕ) → old k → new k
   pub failed : OnErr result ((k : ℕ) → new k → old k)
   pub after_fault : 0 < faults → (k : ℕ) → new k → old k
-
--- No candidate has changed.
-pub record SameCandidates (may_old may_new : ℕ → List ℕ → Type 0) (sure_old sure_new : ℕ → Type 0) : Type 0 where
-  pub adds_none : (k : ℕ) (c : List ℕ) → may_new k c → may_old k c
-  pub stays : (k : ℕ) (c : List ℕ) → may_old k c → may_new k c
-  pub sure : (k : ℕ) → sure_new k → sure_old k
-  pub sure_stays : (k : ℕ) → sure_old k → sure_new k

@@ -1,6 +1,6 @@
 -- Images, and which of them a cut of the power may leave.
 use Rattle.std.specs.Prelude.{◌≡◌, ◌⊎◌, ◌<◌, ◌+◌, ◌*◌, ◌/◌, ℕ, List, length, slice_range}
-use Rattle.edge_base.specs.Spelling.{SpellsNoNode}
+use Rattle.edge_base.specs.layout.Spelling.{SpellsNoNode}
 use Rattle.edge_disk.specs.Disk.{Origin}
 
 -- Blocks of bytes. What stands behind the last block means nothing.

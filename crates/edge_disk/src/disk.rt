@@ -1,7 +1,8 @@
 ghost use Rattle.std.specs.Prelude.{◌≡◌, ◌<◌, ◌^◌, ℕ, List, length, OnOk, IsTrue};
-ghost use Rattle.edge_base.specs.Faults.{HasCause};
-ghost use Rattle.edge_base.specs.Sizes.{is_block_size};
-ghost use Rattle.edge_disk.specs.Disk.{Origin, ShownAfterWrite, MayAfterWrite, SureAfterWrite, MayAfterFlush, SureAfterFlush, SameCandidates};
+ghost use Rattle.edge_base.specs.outside.Below.{SameBelow};
+ghost use Rattle.edge_base.specs.outside.Faults.{HasCause};
+ghost use Rattle.edge_base.specs.layout.Sizes.{is_block_size};
+ghost use Rattle.edge_disk.specs.Disk.{Origin, ShownAfterWrite, MayAfterWrite, SureAfterWrite, MayAfterFlush, SureAfterFlush};
 
 use thiserror::Error;
 
@@ -42,7 +43,7 @@ pub trait Disk {
         ensures cause { HasCause (faults self.old) (faults self.new) result }
         ensures bytes { IsTrue (origin self.old).shows → OnOk result (out.new ≡ shown self.old b) }
         ensures shown { shown self.new ≡ shown self.old }
-        ensures candidates { SameCandidates (may_hold self.old) (may_hold self.new) (is_sure self.old) (is_sure self.new) };
+        ensures candidates { SameBelow (may_hold self.old) (may_hold self.new) (is_sure self.old) (is_sure self.new) };
 
     /// Writes block `b`. Where it fails, reads may give the old bytes or the new ones.
     fn write(&mut self, b: u32, bytes: &[u8]) -> Result<(), DeviceFault>

@@ -1,5 +1,5 @@
 ghost use Rattle.std.specs.Prelude.{◌≡◌, ◌<◌, ◌≤◌, ◌+◌, ◌-◌, ◌^◌, ◌↔◌, min, length, IsTrue, Contains};
-ghost use Rattle.edge_base.specs.Sizes.{is_block_size};
+ghost use Rattle.edge_base.specs.layout.Sizes.{is_block_size};
 ghost use Rattle.edge_disk.specs.Slots.{AllBlocksHave, AllSlotsHave};
 
 use crate::disk::{DeviceFault, Disk};
@@ -52,8 +52,9 @@ fn fault(faults: &mut u64) -> DeviceFault
 
 impl Disk for MemoryDisk {
     ghost use Rattle.std.specs.Prelude.{◌⊎◌, OnOk, OnErr, IsErr};
-    ghost use Rattle.edge_base.specs.Faults.{HasCause};
-    ghost use Rattle.edge_disk.specs.Disk.{ShownAfterWrite, MayAfterWrite, SureAfterWrite, MayAfterFlush, SureAfterFlush, SameCandidates};
+    ghost use Rattle.edge_base.specs.outside.Below.{SameBelow};
+    ghost use Rattle.edge_base.specs.outside.Faults.{HasCause};
+    ghost use Rattle.edge_disk.specs.Disk.{ShownAfterWrite, MayAfterWrite, SureAfterWrite, MayAfterFlush, SureAfterFlush};
     ghost use Rattle.edge_disk.specs.Memory.{origin_of, shown_of, may_hold_of, is_sure_of, faults_of, IsListed, IsFull, CountsCall, SameExtra, ExtraAfterWrite, ExtraAfterFlush};
     ghost use Rattle.edge_disk.specs.CandidateLaws.{block_length, candidate_length, shown_is_candidate, only_shown};
 
@@ -82,7 +83,7 @@ impl Disk for MemoryDisk {
         ensures cause { HasCause (faults_of self.old) (faults_of self.new) result }
         ensures bytes { IsTrue (origin_of self.old).shows → OnOk result (out.new ≡ shown_of self.old b) }
         ensures shown { shown_of self.new ≡ shown_of self.old }
-        ensures candidates { SameCandidates (may_hold_of self.old) (may_hold_of self.new) (is_sure_of self.old) (is_sure_of self.new) }
+        ensures candidates { SameBelow (may_hold_of self.old) (may_hold_of self.new) (is_sure_of self.old) (is_sure_of self.new) }
 
         // Beyond the trait's clauses.
         ensures fails { IsErr result ↔ IsListed self.old }

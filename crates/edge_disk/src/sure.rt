@@ -1,5 +1,5 @@
 ghost use Rattle.std.specs.Prelude.{◌≡◌, ◌<◌, ◌^◌, length, IsTrue};
-ghost use Rattle.edge_base.specs.Sizes.{is_block_size};
+ghost use Rattle.edge_base.specs.layout.Sizes.{is_block_size};
 ghost use Rattle.edge_disk.specs.Slots.{AllBlocksHave};
 
 use crate::disk::{DeviceFault, Disk};
@@ -22,8 +22,9 @@ pub struct SureDisk {
 impl Disk for SureDisk {
     ghost use Rattle.std.specs.Prelude.{◌≢◌, ℕ, OnOk, Ok};
     ghost use Rattle.std.proofs.lemmas.Bool.{false≢true};
-    ghost use Rattle.edge_base.specs.Faults.{HasCause};
-    ghost use Rattle.edge_disk.specs.Disk.{ShownAfterWrite, MayAfterWrite, SureAfterWrite, MayAfterFlush, SureAfterFlush, SameCandidates};
+    ghost use Rattle.edge_base.specs.outside.Below.{SameBelow};
+    ghost use Rattle.edge_base.specs.outside.Faults.{HasCause};
+    ghost use Rattle.edge_disk.specs.Disk.{ShownAfterWrite, MayAfterWrite, SureAfterWrite, MayAfterFlush, SureAfterFlush};
     ghost use Rattle.edge_disk.specs.Sure.{origin_of, shown_of, may_hold_of, is_sure_of, faults_of};
     ghost use Rattle.edge_disk.specs.CandidateLaws.{block_length};
 
@@ -52,7 +53,7 @@ impl Disk for SureDisk {
         ensures cause { HasCause (faults_of self.old) (faults_of self.new) result }
         ensures bytes { IsTrue (origin_of self.old).shows → OnOk result (out.new ≡ shown_of self.old b) }
         ensures shown { shown_of self.new ≡ shown_of self.old }
-        ensures candidates { SameCandidates (may_hold_of self.old) (may_hold_of self.new) (is_sure_of self.old) (is_sure_of self.new) }
+        ensures candidates { SameBelow (may_hold_of self.old) (may_hold_of self.new) (is_sure_of self.old) (is_sure_of self.new) }
 
         // Beyond the trait's clauses.
         ensures never_fails { result ≡ Ok tt }

@@ -5,9 +5,9 @@ use Rattle.std.proofs.lemmas.Bool.{cases_eq, eqb-true}
 use Rattle.edge_base.specs.declared.geometry.Request.{Request}
 use Rattle.edge_base.specs.declared.node.Master.{Master}
 use Rattle.edge_base.specs.declared.node.NodeFault.TheVariants.{WrongSignature}
-use Rattle.edge_base.specs.Places.{IsWithinLimits}
-use Rattle.edge_base.specs.Bytes.{signature_in}
-use Rattle.edge_base.specs.Spelling.{master_signature, master_in, SpellsNoNode}
+use Rattle.edge_base.specs.layout.Places.{IsWithinLimits}
+use Rattle.edge_base.specs.layout.Bytes.{signature_in}
+use Rattle.edge_base.specs.layout.Spelling.{master_signature, master_in, SpellsNoNode}
 use Rattle.edge_disk.specs.Disk.{Origin}
 use Rattle.edge_disk.specs.Image.{Image, shown_image, IsPermitted}
 use Rattle.edge_image.specs.Opens.{IsAlike}

@@ -4,9 +4,9 @@ use Rattle.std.proofs.lemmas.Bool.{ne_eqb}
 use Rattle.std.proofs.lemmas.List.{take-replicate}
 use Rattle.edge_base.specs.declared.geometry.Request.{Request}
 use Rattle.edge_base.specs.declared.node.Metaroot.{Metaroot}
-use Rattle.edge_base.specs.Places.{IsGeometry, entries_of, root_bits_of}
-use Rattle.edge_base.specs.Bytes.{bit_in}
-use Rattle.edge_base.specs.Spelling.{SpellsMetaroot, SpellsInode}
+use Rattle.edge_base.specs.layout.Places.{IsGeometry, entries_of, root_bits_of}
+use Rattle.edge_base.specs.layout.Bytes.{bit_in}
+use Rattle.edge_base.specs.layout.Spelling.{SpellsMetaroot, SpellsInode}
 use Rattle.edge_image.specs.Formatted.{first_metaroot, empty_root, HasFirstMetaroot, HasEmptyRoot}
 use Rattle.edge_image.proofs.FormattedLaws.{first_bit, root_alone}
 use Rattle.edge_nodes.proofs.GeometryLaws.{limits, root_bits_of-inline}

@@ -2,7 +2,7 @@
 use Rattle.std.specs.Prelude.{◌≢◌, ◌⊎◌, ℕ, List, Ok}
 use Rattle.edge_base.specs.declared.geometry.Request.{Request}
 use Rattle.edge_base.specs.declared.node.Master.{Master}
-use Rattle.edge_base.specs.Spelling.{master_in}
+use Rattle.edge_base.specs.layout.Spelling.{master_in}
 use Rattle.edge_disk.specs.Disk.{Origin}
 use Rattle.edge_disk.specs.Image.{Image, IsPermitted, IsPlain}
 use Rattle.edge_image.specs.Opens.{IsAlike}

@@ -1,6 +1,6 @@
 ghost use Rattle.std.specs.Prelude.{◌≡◌, ◌≢◌, ◌⊎◌, ◌<◌, ◌≤◌, ℕ, List, length, Ok, IsTrue, OnOk, OnErr};
-ghost use Rattle.edge_base.specs.Faults.{HasCause};
-ghost use Rattle.edge_base.specs.Spelling.{master_in};
+ghost use Rattle.edge_base.specs.outside.Faults.{HasCause};
+ghost use Rattle.edge_base.specs.layout.Spelling.{master_in};
 ghost use Rattle.edge_disk.specs.Image.{shown_image};
 ghost use Rattle.edge_image.specs.Formatted.{master_of, zero_block, OpensFresh};
 ghost use Rattle.edge_format.specs.Disk.{IsTold, IsSettled, Keeps, IsBesideNodes, IsBeside, HasNodes};

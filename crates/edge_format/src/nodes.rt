@@ -1,5 +1,5 @@
 ghost use Rattle.std.specs.Prelude.{◌≡◌, length, Ok};
-ghost use Rattle.edge_base.specs.Spelling.{master_in};
+ghost use Rattle.edge_base.specs.layout.Spelling.{master_in};
 ghost use Rattle.edge_image.specs.Formatted.{master_of, HasFirstMetaroot, HasEmptyRoot};
 
 use edge_base::{Geometry, Head, Master, Metaroot, NodeType};

@@ -1,5 +1,5 @@
 ghost use Rattle.std.specs.Prelude.{◌≡◌, ◌≢◌, ◌⊎◌, ◌<◌, ℕ, List, length, IsTrue, OnOk};
-ghost use Rattle.edge_base.specs.Faults.{HasCause};
+ghost use Rattle.edge_base.specs.outside.Faults.{HasCause};
 ghost use Rattle.edge_format.specs.Disk.{IsTold, Keeps};
 
 use edge_disk::{DeviceFault, Disk};

@@ -1,6 +1,6 @@
 ghost use Rattle.std.specs.Prelude.{◌≡◌, ◌<◌, ◌≤◌, ◌^◌, IsTrue, IfOk};
 ghost use Rattle.std.specs.Option.{ForNone};
-ghost use Rattle.edge_base.specs.Sizes.{is_block_size};
+ghost use Rattle.edge_base.specs.layout.Sizes.{is_block_size};
 
 use crate::faults::or_fault;
 use edge_disk::{DeviceFault, Disk};
@@ -117,7 +117,7 @@ impl HostDisk {
 
 impl Disk for HostDisk {
     ghost use Rattle.std.specs.Prelude.{[], ◌+◌, ◌-◌, length, min, IsErr, OnErr};
-    ghost use Rattle.edge_base.specs.Faults.{HasCause};
+    ghost use Rattle.edge_base.specs.outside.Faults.{HasCause};
     ghost use Rattle.edge_host.specs.HostDisk.{origin_of, faults_of, sync_failed_of};
 
     ghost origin = { origin_of };

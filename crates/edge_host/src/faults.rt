@@ -1,5 +1,5 @@
 ghost use Rattle.std.specs.Prelude.{◌≡◌, ◌+◌, ◌-◌, ◌^◌, min, MatchResult, OnErr};
-ghost use Rattle.edge_base.specs.Faults.{HasCause};
+ghost use Rattle.edge_base.specs.outside.Faults.{HasCause};
 
 use std::io;
 

@@ -7,10 +7,10 @@ use Rattle.edge_base.specs.declared.geometry.Request.{Request}
 use Rattle.edge_base.specs.declared.node.Master.{Master}
 use Rattle.edge_base.specs.declared.node.Metaroot.{Metaroot}
 use Rattle.edge_base.specs.declared.node.NodeFault.{NodeFault}
-use Rattle.edge_base.specs.Places.{imap_nodes_of, inode_place_of, first_allocable_of, allocable_of}
-use Rattle.edge_base.specs.Bytes.{bit_in}
-use Rattle.edge_base.specs.Sizes.{place_of}
-use Rattle.edge_base.specs.Spelling.{master_in, metaroot_in}
+use Rattle.edge_base.specs.layout.Places.{imap_nodes_of, inode_place_of, first_allocable_of, allocable_of}
+use Rattle.edge_base.specs.layout.Bytes.{bit_in}
+use Rattle.edge_base.specs.layout.Sizes.{place_of}
+use Rattle.edge_base.specs.layout.Spelling.{master_in, metaroot_in}
 use Rattle.edge_disk.specs.Image.{Image}
 use Rattle.edge_store.specs.View.{View, is_allocable}
 use Rattle.edge_model.specs.Tree.{Tree}

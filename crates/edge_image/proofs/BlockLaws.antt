@@ -5,9 +5,9 @@ use Rattle.std.proofs.Math.Nat.{le-div_iff_mul-le}
 use Rattle.std.proofs.lemmas.Bool.{cases_lt, cases_Bool, eq-eqb, ne_eqb, or_from}
 use Rattle.std.proofs.lemmas.List.{length-take, get_or-take, get_or-drop, get_or_past, get_or_append_left, get_or-append_right, ext_get_or}
 use Rattle.edge_base.specs.declared.geometry.Request.{Request}
-use Rattle.edge_base.specs.Slots.{Slots, pieces, slots_in_block, slot_blocks, slots_of_block}
-use Rattle.edge_base.specs.Nodes.{file, directory, marked_from, block_of}
-use Rattle.edge_base.specs.NodeRules.{IsFile, IsDirectory, IsEntry}
+use Rattle.edge_base.specs.tree.Slots.{Slots, pieces, slots_in_block, slot_blocks, slots_of_block}
+use Rattle.edge_base.specs.tree.Nodes.{file, directory, marked_from, block_of}
+use Rattle.edge_base.specs.tree.NodeRules.{IsFile, IsDirectory, IsEntry}
 use Rattle.edge_image.proofs.SlotLaws.{AreSlots, IsSlot, zeros_read, filled, same_slots, same_trimmed}
 
 -- ---- pieces

@@ -8,10 +8,10 @@ use Rattle.edge_base.specs.declared.form.Form.{Form}
 use Rattle.edge_base.specs.declared.form.Form.TheVariants.{Plain, Indirect, Double}
 use Rattle.edge_base.specs.declared.geometry.Request.{Request}
 use Rattle.edge_base.specs.declared.node.NodeType.TheVariants.{Directory}
-use Rattle.edge_base.specs.Positions.{Position, has, positions_of}
-use Rattle.edge_base.specs.Slots.{Slots, slots_in_block, slot_blocks}
-use Rattle.edge_base.specs.Nodes.{Node, file, directory, indices_of}
-use Rattle.edge_base.specs.NodeRules.{IsNode, IsDirectory}
+use Rattle.edge_base.specs.tree.Positions.{Position, has, positions_of}
+use Rattle.edge_base.specs.tree.Slots.{Slots, slots_in_block, slot_blocks}
+use Rattle.edge_base.specs.tree.Nodes.{Node, file, directory, indices_of}
+use Rattle.edge_base.specs.tree.NodeRules.{IsNode, IsDirectory}
 use Rattle.edge_store.specs.View.{View, whole, entries_of_inode}
 use Rattle.edge_store.specs.Placed.{pointer_at, double_block, indirect_block, data_block, block_at, HoldsNode}
 use Rattle.edge_model.specs.Tree.{only_root, slots_of_node, slots_at, node_positions, tree_positions}

@@ -12,10 +12,10 @@ use Rattle.edge_base.specs.declared.geometry.Request.{Request}
 use Rattle.edge_base.specs.declared.node.Metaroot.{Metaroot}
 use Rattle.edge_base.specs.declared.node.NodeFault.{NodeFault}
 use Rattle.edge_base.specs.declared.node.NodeFault.TheVariants.{WrongSignature}
-use Rattle.edge_base.specs.Sizes.{is_block_size, node_bits}
-use Rattle.edge_base.specs.Places.{bad_geometry, entries_of, is_inline_of, table_start_of, inode_place_of, first_allocable_of, allocable_of}
-use Rattle.edge_base.specs.Bytes.{signature_in, bit_in}
-use Rattle.edge_base.specs.Spelling.{metaroot_signature, metaroot_in, inode_in}
+use Rattle.edge_base.specs.layout.Sizes.{is_block_size, node_bits}
+use Rattle.edge_base.specs.layout.Places.{bad_geometry, entries_of, is_inline_of, table_start_of, inode_place_of, first_allocable_of, allocable_of}
+use Rattle.edge_base.specs.layout.Bytes.{signature_in, bit_in}
+use Rattle.edge_base.specs.layout.Spelling.{metaroot_signature, metaroot_in, inode_in}
 use Rattle.edge_disk.specs.Image.{Image}
 use Rattle.edge_store.specs.View.{View, whole, broken, is_allocable}
 use Rattle.edge_model.specs.Tree.{only_root}

@@ -1,9 +1,9 @@
 -- The fresh image of 64 blocks is a formatted one, so it opens to the tree with the root alone.
 use Rattle.std.proofs.Common.{refl, arith}
-use Rattle.edge_base.specs.Word.{check_word_of, eight_steps}
-use Rattle.edge_base.specs.Places.{bad_geometry}
-use Rattle.edge_base.specs.Bytes.{number_at, signature_in, is_zero, bit_in, clear_from}
-use Rattle.edge_base.specs.Spelling.{request_in, master_in, metaroot_fields, metaroot_in, head_fields, inode_in}
+use Rattle.edge_base.specs.layout.Word.{check_word_of, eight_steps}
+use Rattle.edge_base.specs.layout.Places.{bad_geometry}
+use Rattle.edge_base.specs.layout.Bytes.{number_at, signature_in, is_zero, bit_in, clear_from}
+use Rattle.edge_base.specs.layout.Spelling.{request_in, master_in, metaroot_fields, metaroot_in, head_fields, inode_in}
 use Rattle.edge_image.specs.Fresh.{fresh_geometry, fresh_metaroot, fresh_image}
 use Rattle.edge_image.specs.Formatted.{IsFormatted, OpensFresh}
 use Rattle.edge_image.proofs.FormattedLaws.{root_alone, opens_fresh}

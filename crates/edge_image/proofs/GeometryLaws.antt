@@ -9,12 +9,12 @@ use Rattle.edge_base.specs.declared.geometry.Request.{Request}
 use Rattle.edge_base.specs.declared.node.Master.{Master}
 use Rattle.edge_base.specs.declared.node.NodeFault.{NodeFault}
 use Rattle.edge_base.specs.declared.node.NodeFault.TheVariants.{WrongSignature, WrongWord, WrongField}
-use Rattle.edge_base.specs.Sizes.{is_block_size}
-use Rattle.edge_base.specs.Places.{bad_geometry, entries_of, first_allocable_of, allocable_of}
-use Rattle.edge_base.specs.Slots.{slots_in_block}
-use Rattle.edge_base.specs.Word.{check_word_of}
-use Rattle.edge_base.specs.Bytes.{number_at, signature_in, is_zero}
-use Rattle.edge_base.specs.Spelling.{master_signature, request_in, master_in}
+use Rattle.edge_base.specs.layout.Sizes.{is_block_size}
+use Rattle.edge_base.specs.layout.Places.{bad_geometry, entries_of, first_allocable_of, allocable_of}
+use Rattle.edge_base.specs.tree.Slots.{slots_in_block}
+use Rattle.edge_base.specs.layout.Word.{check_word_of}
+use Rattle.edge_base.specs.layout.Bytes.{number_at, signature_in, is_zero}
+use Rattle.edge_base.specs.layout.Spelling.{master_signature, request_in, master_in}
 
 pub record IsUsable (g : Request) : Type 0 where
   pub some_bytes : 0 < g.block_size

@@ -4,8 +4,8 @@ use Rattle.std.specs.Prelude.{is_some}
 use Rattle.std.proofs.lemmas.List.Folds.{list_any_at}
 use Rattle.std.proofs.lemmas.List.FromFn.{length-range_with_len, get_or-range_with_len}
 use Rattle.edge_base.specs.declared.geometry.Request.{Request}
-use Rattle.edge_base.specs.Positions.{Position, has, positions_of}
-use Rattle.edge_base.specs.Nodes.{Node, indices_of}
+use Rattle.edge_base.specs.tree.Positions.{Position, has, positions_of}
+use Rattle.edge_base.specs.tree.Nodes.{Node, indices_of}
 use Rattle.edge_base.proofs.PositionLaws.{has-flat_map}
 use Rattle.edge_store.specs.View.{View}
 use Rattle.edge_store.specs.Placed.{HasNode}

@@ -4,9 +4,9 @@ use Rattle.std.specs.Prelude.{Result}
 use Rattle.edge_base.specs.declared.geometry.Request.{Request}
 use Rattle.edge_base.specs.declared.node.Head.{Head}
 use Rattle.edge_base.specs.declared.node.NodeFault.{NodeFault}
-use Rattle.edge_base.specs.Nodes.{Node}
-use Rattle.edge_base.specs.Places.{inode_place_of}
-use Rattle.edge_base.specs.Spelling.{inode_in}
+use Rattle.edge_base.specs.tree.Nodes.{Node}
+use Rattle.edge_base.specs.layout.Places.{inode_place_of}
+use Rattle.edge_base.specs.layout.Spelling.{inode_in}
 use Rattle.edge_disk.specs.Image.{Image}
 use Rattle.edge_store.specs.View.{whole, broken}
 use Rattle.edge_model.specs.Tree.{Tree}

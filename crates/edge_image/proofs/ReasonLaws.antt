@@ -6,7 +6,7 @@ use Rattle.edge_base.specs.declared.geometry.Request.{Request}
 use Rattle.edge_base.specs.declared.node.Master.{Master}
 use Rattle.edge_base.specs.declared.node.Metaroot.{Metaroot}
 use Rattle.edge_base.specs.declared.node.NodeFault.{NodeFault}
-use Rattle.edge_base.specs.Spelling.{master_in}
+use Rattle.edge_base.specs.layout.Spelling.{master_in}
 use Rattle.edge_disk.specs.Image.{Image}
 use Rattle.edge_image.specs.Image.{Live, live_of, free_blocks_of, free_inodes_of, has_bad_imap, counts_hold, reason_of_counts, reason_of_live, reason_of_master, reason_of}
 use Rattle.edge_image.specs.Ready.{IsMountable}

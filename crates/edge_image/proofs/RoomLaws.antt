@@ -5,10 +5,10 @@ use Rattle.std.specs.List.{list_any}
 use Rattle.std.proofs.lemmas.Bool.{and_parts, and_from, or_cases, leb-true, ltb-true, le-leb, lt-ltb, false≢true}
 use Rattle.edge_base.specs.declared.form.Form.{Form}
 use Rattle.edge_base.specs.declared.geometry.Request.{Request}
-use Rattle.edge_base.specs.Counting.{LeadTo}
-use Rattle.edge_base.specs.Places.{first_allocable_of, allocable_of}
-use Rattle.edge_base.specs.Positions.{Position, has, count_of, positions_of}
-use Rattle.edge_base.specs.Nodes.{Node, indices_of}
+use Rattle.edge_base.specs.tree.Counting.{LeadTo}
+use Rattle.edge_base.specs.layout.Places.{first_allocable_of, allocable_of}
+use Rattle.edge_base.specs.tree.Positions.{Position, has, count_of, positions_of}
+use Rattle.edge_base.specs.tree.Nodes.{Node, indices_of}
 use Rattle.edge_base.proofs.PositionLaws.{has-flat_map}
 use Rattle.edge_base.proofs.ChainLaws.{has-positions_of-number}
 use Rattle.edge_base.proofs.CountLaws.{count_by-LeadTo, count_by-LeadTo-rest}

@@ -8,8 +8,8 @@ use Rattle.std.proofs.lemmas.List.Elements.{All-head, All-tail}
 use Rattle.byteorder.specs.Endian.{little_from}
 use Rattle.byteorder.specs.Numbers.{little_number-reads_back}
 use Rattle.edge_base.specs.declared.geometry.Request.{Request}
-use Rattle.edge_base.specs.Slots.{Entry, Slots, is_bad_name, is_name, slot_bytes, trimmed}
-use Rattle.edge_base.specs.NodeRules.{IsEntry, entries_of_slots}
+use Rattle.edge_base.specs.tree.Slots.{Entry, Slots, is_bad_name, is_name, slot_bytes, trimmed}
+use Rattle.edge_base.specs.tree.NodeRules.{IsEntry, entries_of_slots}
 
 -- ---- filled slots
 

@@ -7,11 +7,11 @@ use Rattle.std.proofs.lemmas.List.{ext_get_or}
 use Rattle.edge_base.specs.declared.geometry.Request.{Request}
 use Rattle.edge_base.specs.declared.node.Head.{Head}
 use Rattle.edge_base.specs.declared.node.NodeType.TheVariants.{File, Directory}
-use Rattle.edge_base.specs.Places.{max_blocks_of}
-use Rattle.edge_base.specs.Positions.{data_at, positions_of, has}
-use Rattle.edge_base.specs.Slots.{Slots, pieces, slots_in_block, slot_blocks}
-use Rattle.edge_base.specs.Nodes.{Node, file, directory, marked_from, indices_of, size_of, kind_of, parent_of, block_of}
-use Rattle.edge_base.specs.NodeRules.{IsNode, IsFile, IsDirectory}
+use Rattle.edge_base.specs.layout.Places.{max_blocks_of}
+use Rattle.edge_base.specs.tree.Positions.{data_at, positions_of, has}
+use Rattle.edge_base.specs.tree.Slots.{Slots, pieces, slots_in_block, slot_blocks}
+use Rattle.edge_base.specs.tree.Nodes.{Node, file, directory, marked_from, indices_of, size_of, kind_of, parent_of, block_of}
+use Rattle.edge_base.specs.tree.NodeRules.{IsNode, IsFile, IsDirectory}
 use Rattle.edge_base.proofs.ChainLaws.{has-positions_of}
 use Rattle.edge_store.specs.View.{View, whole, bytes}
 use Rattle.edge_store.specs.Placed.{data_block, HoldsNode}

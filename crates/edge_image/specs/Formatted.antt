@@ -5,9 +5,9 @@ use Rattle.edge_base.specs.declared.node.Head.{Head}
 use Rattle.edge_base.specs.declared.node.Master.{Master}
 use Rattle.edge_base.specs.declared.node.Metaroot.{Metaroot}
 use Rattle.edge_base.specs.declared.node.NodeType.TheVariants.{Directory}
-use Rattle.edge_base.specs.Places.{entries_of, table_start_of, inode_place_of, first_allocable_of, allocable_of}
-use Rattle.edge_base.specs.Bytes.{number_at, numbers_at}
-use Rattle.edge_base.specs.Spelling.{master_in, metaroot_in, inode_in}
+use Rattle.edge_base.specs.layout.Places.{entries_of, table_start_of, inode_place_of, first_allocable_of, allocable_of}
+use Rattle.edge_base.specs.layout.Bytes.{number_at, numbers_at}
+use Rattle.edge_base.specs.layout.Spelling.{master_in, metaroot_in, inode_in}
 use Rattle.edge_disk.specs.Image.{Image}
 use Rattle.edge_model.specs.Tree.{only_root}
 use Rattle.edge_image.specs.Image.{is_used, root_number}

@@ -2,7 +2,7 @@
 use Rattle.std.specs.Prelude.{ℕ, ◌==◌, if◌then◌else◌, List, ◌∷◌, ◌++◌, replicate}
 use Rattle.byteorder.specs.Endian.{little_bytes, big_bytes}
 use Rattle.edge_base.specs.declared.geometry.Request.{Request}
-use Rattle.edge_base.specs.Spelling.{master_signature, metaroot_signature, inode_signature}
+use Rattle.edge_base.specs.layout.Spelling.{master_signature, metaroot_signature, inode_signature}
 use Rattle.edge_disk.specs.Image.{Image}
 
 abbrev pub fresh_geometry : Request

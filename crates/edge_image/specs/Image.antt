@@ -10,10 +10,10 @@ use Rattle.edge_base.specs.declared.damage.Damage.{Damage}
 use Rattle.edge_base.specs.declared.damage.DamageKind.{DamageKind}
 use Rattle.edge_base.specs.declared.damage.DamageKind.TheVariants as kinds
 use Rattle.edge_base.specs.declared.node.NodeFault.TheVariants as faults
-use Rattle.edge_base.specs.Places.{imap_nodes_of, imap_place_of, table_start_of, inode_place_of, first_allocable_of, allocable_of}
-use Rattle.edge_base.specs.Bytes.{number_at, signature_in, bit_in, clear_from}
-use Rattle.edge_base.specs.Word.{check_word_of}
-use Rattle.edge_base.specs.Spelling.{imap_signature, bits_of_node, master_in, metaroot_in, inode_in}
+use Rattle.edge_base.specs.layout.Places.{imap_nodes_of, imap_place_of, table_start_of, inode_place_of, first_allocable_of, allocable_of}
+use Rattle.edge_base.specs.layout.Bytes.{number_at, signature_in, bit_in, clear_from}
+use Rattle.edge_base.specs.layout.Word.{check_word_of}
+use Rattle.edge_base.specs.layout.Spelling.{imap_signature, bits_of_node, master_in, metaroot_in, inode_in}
 use Rattle.edge_disk.specs.Image.{Image}
 
 -- ---- the live metaroot

@@ -3,9 +3,9 @@ use Rattle.std.specs.Prelude.{◌≡◌, ◌≢◌, ◌↔◌, ◌<◌, ℕ, tru
 use Rattle.edge_base.specs.declared.geometry.Request.{Request}
 use Rattle.edge_base.specs.declared.node.Head.{Head}
 use Rattle.edge_base.specs.declared.node.Master.{Master}
-use Rattle.edge_base.specs.Spelling.{master_in}
-use Rattle.edge_base.specs.Positions.{Position, has}
-use Rattle.edge_base.specs.Nodes.{Node, kind_of, size_of, parent_of}
+use Rattle.edge_base.specs.layout.Spelling.{master_in}
+use Rattle.edge_base.specs.tree.Positions.{Position, has}
+use Rattle.edge_base.specs.tree.Nodes.{Node, kind_of, size_of, parent_of}
 use Rattle.edge_disk.specs.Disk.{Origin}
 use Rattle.edge_disk.specs.Image.{Image, shown_image}
 use Rattle.edge_store.specs.View.{View, whole, broken, is_used}

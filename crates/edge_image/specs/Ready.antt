@@ -4,7 +4,7 @@ use Rattle.edge_base.specs.declared.geometry.Request.{Request}
 use Rattle.edge_base.specs.declared.node.Head.{Head}
 use Rattle.edge_base.specs.declared.node.Master.{Master}
 use Rattle.edge_base.specs.declared.node.Metaroot.{Metaroot}
-use Rattle.edge_base.specs.Spelling.{master_in, metaroot_in, inode_in}
+use Rattle.edge_base.specs.layout.Spelling.{master_in, metaroot_in, inode_in}
 use Rattle.edge_disk.specs.Image.{Image}
 use Rattle.edge_image.specs.Image.{Live, live_of, used_place, root_number, free_blocks_of, free_inodes_of, has_bad_imap, reason_of}
 

@@ -3,9 +3,9 @@ use Rattle.std.specs.Prelude.{ℕ, ◌+◌, ◌&&◌, Bool, true, false, nat_le,
 use Rattle.edge_base.specs.declared.geometry.Request.{Request}
 use Rattle.edge_base.specs.declared.node.Head.{Head}
 use Rattle.edge_base.specs.declared.node.NodeFault.{NodeFault}
-use Rattle.edge_base.specs.Places.{entries_of, inode_place_of}
-use Rattle.edge_base.specs.Bytes.{numbers_at}
-use Rattle.edge_base.specs.Spelling.{PointerNode, inode_in, pointer_in}
+use Rattle.edge_base.specs.layout.Places.{entries_of, inode_place_of}
+use Rattle.edge_base.specs.layout.Bytes.{numbers_at}
+use Rattle.edge_base.specs.layout.Spelling.{PointerNode, inode_in, pointer_in}
 use Rattle.edge_disk.specs.Image.{Image}
 use Rattle.edge_store.specs.View.{View, Inode, whole, broken, Block, Pointers, is_allocable}
 use Rattle.edge_image.specs.Image.{Live, is_used}

@@ -7,10 +7,10 @@ ghost use Rattle.std.specs.Prelude.{◌≡◌, ◌↔◌, ℕ, ◌+◌, List, No
 ghost use Rattle.edge_base.specs.declared.geometry.Request.{Request};
 ghost use Rattle.edge_base.specs.declared.node.Head.{Head};
 ghost use Rattle.edge_base.specs.declared.node.Master.{Master};
-ghost use Rattle.edge_base.specs.Nodes.{Node};
-ghost use Rattle.edge_base.specs.Places.{allocable_of};
-ghost use Rattle.edge_base.specs.Positions.{count_of};
-ghost use Rattle.edge_base.specs.Spelling.{master_in};
+ghost use Rattle.edge_base.specs.tree.Nodes.{Node};
+ghost use Rattle.edge_base.specs.layout.Places.{allocable_of};
+ghost use Rattle.edge_base.specs.tree.Positions.{count_of};
+ghost use Rattle.edge_base.specs.layout.Spelling.{master_in};
 ghost use Rattle.edge_disk.specs.Image.{Image};
 ghost use Rattle.edge_store.specs.View.{View, is_used, count_allocable};
 ghost use Rattle.edge_store.specs.Counted.{Occupy};

@@ -49,7 +49,7 @@ impl MemoryFolder {
 
 impl Folder for MemoryFolder {
     ghost use Rattle.std.specs.Prelude.{◌≡◌, ◌+◌, ◌-◌, ◌^◌, ◌↔◌, min, true, drop, Contains, IsErr, IfOk, IfSome, OnErr};
-    ghost use Rattle.edge_base.specs.Faults.{HasCause};
+    ghost use Rattle.edge_base.specs.outside.Faults.{HasCause};
     ghost use Rattle.edge_io.specs.Entries.{GivesItem};
     ghost use Rattle.edge_io.specs.MemoryFolder.{items_of, left_of, fails_of, calls_of, faults_of};
     ghost use Rattle.edge_io.specs.Streams.{Gives};

@@ -44,7 +44,7 @@ impl MemorySink {
 
 impl Sink for MemorySink {
     ghost use Rattle.std.specs.Prelude.{◌≡◌, ◌<◌, ◌+◌, ◌-◌, ◌^◌, ◌++◌, ◌↔◌, ◌⊎◌, min, true, take, Contains, IsErr, IfOk, OnErr};
-    ghost use Rattle.edge_base.specs.Faults.{HasCause};
+    ghost use Rattle.edge_base.specs.outside.Faults.{HasCause};
     ghost use Rattle.edge_io.specs.MemorySink.{taken_of, size_of, fails_of, calls_of, faults_of};
 
     ghost tells = { λ _. true };

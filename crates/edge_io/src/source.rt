@@ -1,5 +1,5 @@
 ghost use Rattle.std.specs.Prelude.{◌≡◌, ◌≤◌, ℕ, Bool, List, length, IfOk, OnErr, IsTrue};
-ghost use Rattle.edge_base.specs.Faults.{HasCause};
+ghost use Rattle.edge_base.specs.outside.Faults.{HasCause};
 ghost use Rattle.edge_io.specs.Streams.{Gives};
 
 use thiserror::Error;

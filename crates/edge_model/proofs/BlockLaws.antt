@@ -7,9 +7,9 @@ use Rattle.std.proofs.lemmas.List.Elements.{All-head, All-tail}
 use Rattle.std.proofs.Math.Nat.{div-mul-le_self, mul-le-mul_right, le-div_iff_mul-le}
 use Rattle.byteorder.specs.Endian.{little_bytes}
 use Rattle.edge_base.specs.declared.geometry.Request.{Request}
-use Rattle.edge_base.specs.Slots.{Entry, Slots, slots_in_block, slot_bytes, slots_of_block, trimmed, is_name}
-use Rattle.edge_base.specs.Nodes.{padded}
-use Rattle.edge_base.specs.NodeRules.{IsEntry, IsDirectory, entries_of_slots}
+use Rattle.edge_base.specs.tree.Slots.{Entry, Slots, slots_in_block, slot_bytes, slots_of_block, trimmed, is_name}
+use Rattle.edge_base.specs.tree.Nodes.{padded}
+use Rattle.edge_base.specs.tree.NodeRules.{IsEntry, IsDirectory, entries_of_slots}
 use Rattle.edge_model.specs.Named.{with_slot, without_slot}
 
 -- ---- lists by their elements

@@ -4,11 +4,11 @@ use Rattle.std.proofs.lemmas.Bool.{false≢true, or_parts}
 use Rattle.edge_base.specs.declared.geometry.Request.{Request}
 use Rattle.edge_base.specs.declared.refusal.Refusal.{Refusal}
 use Rattle.edge_base.specs.declared.refusal.Refusal.TheVariants as refusal
-use Rattle.edge_base.specs.Refusals.{◌>>=◌, refuse_if, or_refuse}
-use Rattle.edge_base.specs.Places.{max_size_of}
-use Rattle.edge_base.specs.Descriptors.{Descriptor, is_full, is_open}
-use Rattle.edge_base.specs.Nodes.{Node, file, directory}
-use Rattle.edge_base.specs.Paths.{names_of, names_in, two_paths}
+use Rattle.edge_base.specs.commands.Refusals.{◌>>=◌, refuse_if, or_refuse}
+use Rattle.edge_base.specs.layout.Places.{max_size_of}
+use Rattle.edge_base.specs.commands.Descriptors.{Descriptor, is_full, is_open}
+use Rattle.edge_base.specs.tree.Nodes.{Node, file, directory}
+use Rattle.edge_base.specs.commands.Paths.{names_of, names_in, two_paths}
 use Rattle.edge_model.specs.declared.command.OpenFlags.{OpenFlags}
 use Rattle.edge_model.specs.Asked.{Asked, open_file, close, read, write, fill, seek, truncate, fsync, link, unlink, rename, make_dir, remove_dir, open_dir, read_dir, rewind, stat, fstat, space, mask, set_mask, transact}
 use Rattle.edge_model.specs.Tree.{Tree, is_directory, slots_at, links_of, free_number, with_node}

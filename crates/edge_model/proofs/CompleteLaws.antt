@@ -3,12 +3,12 @@ use Rattle.std.proofs.Common.{◌≡◌, ℕ, ◌/◌, ◌≤◌, Bool, true, fa
 use Rattle.std.proofs.lemmas.Bool.{false≢true}
 use Rattle.edge_base.specs.declared.geometry.Request.{Request}
 use Rattle.edge_base.specs.declared.refusal.Refusal.TheVariants as refusal
-use Rattle.edge_base.specs.Refusals.{refuse_if}
-use Rattle.edge_base.specs.Positions.{Position}
-use Rattle.edge_base.specs.Places.{max_blocks_of}
-use Rattle.edge_base.specs.Slots.{slots_in_block}
-use Rattle.edge_base.specs.Descriptors.{first_empty}
-use Rattle.edge_base.specs.Nodes.{Node, file, directory}
+use Rattle.edge_base.specs.commands.Refusals.{refuse_if}
+use Rattle.edge_base.specs.tree.Positions.{Position}
+use Rattle.edge_base.specs.layout.Places.{max_blocks_of}
+use Rattle.edge_base.specs.tree.Slots.{slots_in_block}
+use Rattle.edge_base.specs.commands.Descriptors.{first_empty}
+use Rattle.edge_base.specs.tree.Nodes.{Node, file, directory}
 use Rattle.edge_model.specs.Asked.{Asked}
 use Rattle.edge_model.specs.Tree.{Tree, slots_at, with_node}
 use Rattle.edge_model.specs.Walk.{Spot, top, within, Found, at_spot}

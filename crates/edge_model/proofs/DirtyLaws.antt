@@ -2,10 +2,10 @@
 use Rattle.std.proofs.Common.{ap, refl, Bool, ◌≡◌, ℕ, not, true, false, List, ◌++◌, filter, Option, Some, None, ◌⊎◌, inl, inr, ⊎_elim, sym, ◌∙◌, subst}
 use Rattle.std.proofs.lemmas.Bool.{false≢true, cases_Bool, not_from_false}
 use Rattle.edge_base.specs.declared.geometry.Request.{Request}
-use Rattle.edge_base.specs.Positions.{Position, has, data_at, ancestors, all_ancestors, touched}
+use Rattle.edge_base.specs.tree.Positions.{Position, has, data_at, ancestors, all_ancestors, touched}
 use Rattle.edge_model.specs.Asked.{Asked}
 use Rattle.edge_model.specs.Tree.{Tree, node_at, numbers_of, tree_positions}
-use Rattle.edge_base.specs.Nodes.{block_of}
+use Rattle.edge_base.specs.tree.Nodes.{block_of}
 use Rattle.edge_model.specs.State.{State, Edit, point_taken, dirty_of, edited}
 use Rattle.edge_model.specs.Step.{step, plan}
 use Rattle.edge_model.specs.Laws.{IsDirtyWithin, IsDirtyUpwards, IsCleanCommitted, IsCleanAbove, IsCleanSame}

@@ -3,9 +3,9 @@ use Rattle.std.proofs.Common.{◌≡◌, ℕ, ◌+◌, ◌-◌, ◌/◌, ◌<◌
 use Rattle.std.specs.List.{range_with_len}
 use Rattle.std.proofs.lemmas.Bool.{false≢true, and_parts, or_cases}
 use Rattle.edge_base.specs.declared.geometry.Request.{Request}
-use Rattle.edge_base.specs.Positions.{Position, data_at}
-use Rattle.edge_base.specs.Slots.{Entry, Slots, slots_in_block, slot_blocks}
-use Rattle.edge_base.specs.Nodes.{Node, file, directory}
+use Rattle.edge_base.specs.tree.Positions.{Position, data_at}
+use Rattle.edge_base.specs.tree.Slots.{Entry, Slots, slots_in_block, slot_blocks}
+use Rattle.edge_base.specs.tree.Nodes.{Node, file, directory}
 use Rattle.edge_model.specs.Tree.{Tree, node_at, slots_at, slots_of_node, with_node, with_slots}
 use Rattle.edge_model.specs.Walk.{Spot, Found}
 use Rattle.edge_model.specs.Named.{slot_position, placed, cleared}

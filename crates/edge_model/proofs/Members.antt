@@ -4,7 +4,7 @@ use Rattle.std.specs.List.{range_with_len}
 use Rattle.std.proofs.lemmas.Bool.{false≢true, or_cases, or_left, or_right}
 use Rattle.edge_base.specs.declared.form.Form.{Form}
 use Rattle.edge_base.specs.declared.form.Form.TheVariants.{Plain, Indirect, Double}
-use Rattle.edge_base.specs.Positions.{Position, same_form, same_position, has}
+use Rattle.edge_base.specs.tree.Positions.{Position, same_form, same_position, has}
 
 abbrev pub IsAmong : {A : Type 0} → List A → A → Type 0
 IsAmong [] q = ⊥

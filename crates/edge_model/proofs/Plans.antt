@@ -1,7 +1,7 @@
 -- What holds of what a plan or a part of one gives, walked along its refusals.
 use Rattle.std.proofs.Common.{◌≡◌, Bool, true, false, cond, Result, Ok, Err, refl, subst}
 use Rattle.edge_base.specs.declared.refusal.Refusal.{Refusal}
-use Rattle.edge_base.specs.Refusals.{◌>>=◌}
+use Rattle.edge_base.specs.commands.Refusals.{◌>>=◌}
 
 -- P holds of what is given, where nothing was refused
 pub record Gives {A : Type 0} (P : A → Type 0) (r : Result A Refusal) : Type 0 where

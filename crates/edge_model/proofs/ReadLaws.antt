@@ -5,8 +5,8 @@ use Rattle.std.proofs.lemmas.Bool.{false≢true, and_parts}
 use Rattle.edge_base.specs.declared.geometry.Request.{Request}
 use Rattle.edge_base.specs.declared.refusal.Refusal.{Refusal}
 use Rattle.edge_base.specs.declared.refusal.Refusal.TheVariants as refusal
-use Rattle.edge_base.specs.Refusals.{◌>>=◌, refuse_if}
-use Rattle.edge_base.specs.Descriptors.{Descriptor, is_full}
+use Rattle.edge_base.specs.commands.Refusals.{◌>>=◌, refuse_if}
+use Rattle.edge_base.specs.commands.Descriptors.{Descriptor, is_full}
 use Rattle.edge_model.specs.Asked.{Asked, open_file, close, read, write, fill, seek, truncate, fsync, link, unlink, rename, make_dir, remove_dir, open_dir, read_dir, rewind, stat, fstat, space, mask, set_mask, transact, Reply}
 use Rattle.edge_model.specs.Tree.{Tree, is_directory}
 use Rattle.edge_model.specs.State.{State, Edit, Plan, Outcome, keeps, edited, planned, ended, first_state}

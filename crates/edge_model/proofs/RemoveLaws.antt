@@ -4,13 +4,13 @@ use Rattle.std.specs.List.{range_with_len}
 use Rattle.std.proofs.lemmas.Bool.{false≢true, cases_lt, or_left, le-leb}
 use Rattle.edge_base.specs.declared.geometry.Request.{Request}
 use Rattle.edge_base.specs.declared.refusal.Refusal.TheVariants as refusal
-use Rattle.edge_base.specs.Refusals.{refuse_if}
-use Rattle.edge_base.specs.Positions.{Position, data_at}
-use Rattle.edge_base.specs.Slots.{Entry, Slots, pieces, slots_in_block, slot_blocks}
-use Rattle.edge_base.specs.Descriptors.{descriptor_at}
-use Rattle.edge_base.specs.Nodes.{Node, file, directory, marked_from, indices_of}
-use Rattle.edge_base.specs.NodeRules.{IsNode}
-use Rattle.edge_base.specs.Paths.{names_in}
+use Rattle.edge_base.specs.commands.Refusals.{refuse_if}
+use Rattle.edge_base.specs.tree.Positions.{Position, data_at}
+use Rattle.edge_base.specs.tree.Slots.{Entry, Slots, pieces, slots_in_block, slot_blocks}
+use Rattle.edge_base.specs.commands.Descriptors.{descriptor_at}
+use Rattle.edge_base.specs.tree.Nodes.{Node, file, directory, marked_from, indices_of}
+use Rattle.edge_base.specs.tree.NodeRules.{IsNode}
+use Rattle.edge_base.specs.commands.Paths.{names_in}
 use Rattle.edge_model.specs.Tree.{Tree, node_at, is_directory, is_directory_node, slots_at, slots_of_node, with_node, with_slots, data_positions, numbers_of}
 use Rattle.edge_model.specs.Walk.{Spot, Found}
 use Rattle.edge_model.specs.State.{State, Plan}

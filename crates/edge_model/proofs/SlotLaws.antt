@@ -5,9 +5,9 @@ use Rattle.std.proofs.lemmas.Bool.{false≢true, cases_order}
 use Rattle.std.proofs.Math.Nat.{div-zero, le-div_iff_mul-le, eq-zero-or-pos}
 use Rattle.std.specs.Str.{bytes_eq}
 use Rattle.edge_base.specs.declared.geometry.Request.{Request}
-use Rattle.edge_base.specs.Slots.{Entry, Slots, pieces, slots_in_block, slot_blocks, trimmed}
-use Rattle.edge_base.specs.Descriptors.{first_empty, first_empty_from}
-use Rattle.edge_base.specs.Nodes.{marked_from}
+use Rattle.edge_base.specs.tree.Slots.{Entry, Slots, pieces, slots_in_block, slot_blocks, trimmed}
+use Rattle.edge_base.specs.commands.Descriptors.{first_empty, first_empty_from}
+use Rattle.edge_base.specs.tree.Nodes.{marked_from}
 use Rattle.edge_model.specs.Named.{with_slot, without_slot}
 use Rattle.edge_model.specs.Walk.{Found, find_from}
 use Rattle.edge_model.proofs.Members.{IsAmong}

@@ -3,8 +3,8 @@ use Rattle.std.proofs.Common.{◌≡◌, ℕ, not, true, false, List, [], ◌∷
 use Rattle.std.proofs.lemmas.Bool.{false≢true}
 use Rattle.edge_base.specs.declared.geometry.Request.{Request}
 use Rattle.edge_base.specs.declared.refusal.Refusal.TheVariants.{NotDir}
-use Rattle.edge_base.specs.Refusals.{refuse_if}
-use Rattle.edge_base.specs.Paths.{names_of, names_in}
+use Rattle.edge_base.specs.commands.Refusals.{refuse_if}
+use Rattle.edge_base.specs.commands.Paths.{names_of, names_in}
 use Rattle.edge_model.specs.Tree.{Tree, is_directory}
 use Rattle.edge_model.specs.Walk.{Spot, top, within, found_number, find_name, walk, walk_from, spot_of, is_top}
 use Rattle.edge_model.specs.Names.{holder}

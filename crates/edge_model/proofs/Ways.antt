@@ -3,9 +3,9 @@ use Rattle.std.proofs.Common.{ap, ◌≡◌, ℕ, ◌-◌, ◌/◌, Bool, true, 
 use Rattle.edge_base.specs.declared.form.Form.{Form}
 use Rattle.edge_base.specs.declared.form.Form.TheVariants.{Plain, Indirect, Double}
 use Rattle.edge_base.specs.declared.geometry.Request.{Request}
-use Rattle.edge_base.specs.Places.{pointers_of}
-use Rattle.edge_base.specs.Positions.{Position, data_at, indirect_at, double_at, above_indirect, above_data, ancestors, chain}
-use Rattle.edge_base.specs.Nodes.{Node, indices_of}
+use Rattle.edge_base.specs.layout.Places.{pointers_of}
+use Rattle.edge_base.specs.tree.Positions.{Position, data_at, indirect_at, double_at, above_indirect, above_data, ancestors, chain}
+use Rattle.edge_base.specs.tree.Nodes.{Node, indices_of}
 use Rattle.edge_model.specs.Tree.{Tree, numbers_of, node_positions, tree_positions}
 use Rattle.edge_model.proofs.Members.{IsAmong, among_flat_map, from_flat_map}
 

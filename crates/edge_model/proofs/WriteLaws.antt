@@ -6,10 +6,10 @@ use Rattle.std.proofs.lemmas.List.{ext_get_or, get_or-take, get_or-drop, get_or_
 use Rattle.std.proofs.lemmas.List.FromFn.{length-map-range_with_len}
 use Rattle.std.proofs.Math.Nat.{div-zero, le-div_iff_mul-le, div-lt_iff_lt-mul, eq-zero-or-pos}
 use Rattle.edge_base.specs.declared.geometry.Request.{Request}
-use Rattle.edge_base.specs.Positions.{Position, data_at}
-use Rattle.edge_base.specs.Slots.{Entry, Slots, pieces, slots_in_block, slot_blocks, slots_of_block, slot_bytes}
-use Rattle.edge_base.specs.Nodes.{Node, file, directory, padded, block_of}
-use Rattle.edge_base.specs.NodeRules.{IsNode}
+use Rattle.edge_base.specs.tree.Positions.{Position, data_at}
+use Rattle.edge_base.specs.tree.Slots.{Entry, Slots, pieces, slots_in_block, slot_blocks, slots_of_block, slot_bytes}
+use Rattle.edge_base.specs.tree.Nodes.{Node, file, directory, padded, block_of}
+use Rattle.edge_base.specs.tree.NodeRules.{IsNode}
 use Rattle.edge_model.specs.Tree.{Tree, node_at, slots_at, slots_of_node, with_node, with_slots}
 use Rattle.edge_model.specs.Walk.{Spot, Found}
 use Rattle.edge_model.specs.State.{State, Plan}

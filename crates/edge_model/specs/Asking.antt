@@ -2,9 +2,8 @@
 use Rattle.std.specs.Prelude.{◌≡◌, ◌≤◌, ◌<◌, ℕ, ◌+◌, ◌==◌, ◌||◌, ◌&&◌, not, Bool, true, false, nat_lt, if◌then◌else◌, List, length, get_or, Option, Some, None, Result, Err, OnOk}
 use Rattle.edge_base.specs.declared.geometry.Request.{Request}
 use Rattle.edge_base.specs.declared.damage.Damage.{Damage}
-use Rattle.edge_base.specs.Faults.{Rose}
 use Rattle.edge_base.specs.declared.refusal.Refusal.TheVariants as no
-use Rattle.edge_base.specs.Events as event
+use Rattle.edge_base.specs.commands.Events as event
 use Rattle.edge_model.specs.declared.ask.AskFault.{AskFault}
 use Rattle.edge_model.specs.declared.ask.AskFault.TheVariants.{Device, Damaged}
 use Rattle.edge_model.specs.declared.command.Answer.{Answer}
@@ -13,12 +12,6 @@ use Rattle.edge_model.specs.declared.command.OpenFlags.{OpenFlags}
 use Rattle.edge_model.specs.Asked.{Asked, open_file, close, read, write, fill, seek, open_dir, read_dir, rewind, stat, fstat, space, mask, set_mask}
 use Rattle.edge_model.specs.Tree.{Tree}
 use Rattle.edge_model.specs.State.{State}
-
--- What an object was made with, which no call changes.
-pub record Origin : Type 0 where
-  pub request : Request
-  -- whatever else it was made with, as numbers
-  pub others : List ℕ
 
 -- the limits of a command
 abbrev pub IsInLimits : Asked → Type 0
@@ -29,16 +22,10 @@ IsInLimits command = Unit {0}
 
 -- ---- faults
 
--- the cause of a fault: the count of faults rose, or the damage is kept
-abbrev pub Because : ℕ → ℕ → Option Damage → Option Damage → AskFault → Type 0
-Because faults_old faults_new damage_old damage_new Device = Rose faults_old faults_new × (damage_new ≡ damage_old)
-Because faults_old faults_new damage_old damage_new (Damaged d) = damage_new ≡ Some d
-
--- A call that answered Ok left the count and the damage as they were, and one that answered a fault tells its cause.
-pub record HasCause {T : Type 0} (result : Result T AskFault) (faults_old faults_new : ℕ) (damage_old damage_new : Option Damage) : Type 0 where
-  pub later : faults_old ≤ faults_new
-  pub passed : OnOk result ((faults_new ≡ faults_old) × (damage_new ≡ damage_old))
-  pub failed : (fault : AskFault) → result ≡ Err fault → Because faults_old faults_new damage_old damage_new fault
+-- the damage that a fault tells
+abbrev pub damage_of : AskFault → Option Damage
+damage_of Device = None
+damage_of (Damaged d) = Some d
 
 -- ---- points
 
@@ -124,10 +111,3 @@ is_quiet events (fstat h) = true
 is_quiet events space = true
 is_quiet events mask = true
 is_quiet events command = false
-
--- No candidate of the disk below has changed: neither what a block may hold, nor which blocks have one candidate.
-pub record SameBelow (may_old may_new : ℕ → List ℕ → Type 0) (sure_old sure_new : ℕ → Type 0) : Type 0 where
-  pub adds_none : (k : ℕ) (c : List ℕ) → may_new k c → may_old k c
-  pub stays : (k : ℕ) (c : List ℕ) → may_old k c → may_new k c
-  pub sure : (k : ℕ) → sure_new k → sure_old k
-  pub sure_stays : (k : ℕ) → sure_old k → sure_new k

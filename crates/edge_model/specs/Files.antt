@@ -4,13 +4,13 @@ use Rattle.std.specs.List.{range_with_len}
 use Rattle.edge_base.specs.declared.geometry.Request.{Request}
 use Rattle.edge_base.specs.declared.refusal.Refusal.{Refusal}
 use Rattle.edge_base.specs.declared.refusal.Refusal.TheVariants as refusal
-use Rattle.edge_base.specs.Refusals.{◌>>=◌, refuse_if}
-use Rattle.edge_base.specs.Places.{max_size_of}
-use Rattle.edge_base.specs.Positions.{data_at}
-use Rattle.edge_base.specs.Slots.{pieces}
-use Rattle.edge_base.specs.Descriptors.{Descriptor}
-use Rattle.edge_base.specs.Events as event
-use Rattle.edge_base.specs.Nodes.{Node, file, directory, marked_from}
+use Rattle.edge_base.specs.commands.Refusals.{◌>>=◌, refuse_if}
+use Rattle.edge_base.specs.layout.Places.{max_size_of}
+use Rattle.edge_base.specs.tree.Positions.{data_at}
+use Rattle.edge_base.specs.tree.Slots.{pieces}
+use Rattle.edge_base.specs.commands.Descriptors.{Descriptor}
+use Rattle.edge_base.specs.commands.Events as event
+use Rattle.edge_base.specs.tree.Nodes.{Node, file, directory, marked_from}
 use Rattle.edge_model.specs.Tree.{Tree, node_at, with_node}
 use Rattle.edge_model.specs.State.{State, Edit, Plan, keeps, changes}
 use Rattle.edge_model.specs.Asked.{done, number, bytes, end}

@@ -1,10 +1,10 @@
 -- What holds of every state of a session and of every run.
 use Rattle.std.specs.Prelude.{◌≡◌, ℕ, Bool, true, false, List, [], ◌∷◌, Option, Some, None}
 use Rattle.edge_base.specs.declared.geometry.Request.{Request}
-use Rattle.edge_base.specs.Positions.{Position, has, ancestors, data_at}
-use Rattle.edge_base.specs.Descriptors.{Descriptor, descriptor_at}
-use Rattle.edge_base.specs.Nodes.{Node, block_of}
-use Rattle.edge_base.specs.NodeRules.{IsNode}
+use Rattle.edge_base.specs.tree.Positions.{Position, has, ancestors, data_at}
+use Rattle.edge_base.specs.commands.Descriptors.{Descriptor, descriptor_at}
+use Rattle.edge_base.specs.tree.Nodes.{Node, block_of}
+use Rattle.edge_base.specs.tree.NodeRules.{IsNode}
 use Rattle.edge_model.specs.Asked.{Asked, close, read, seek, fsync, open_dir, read_dir, rewind, stat, fstat, space, mask, set_mask, transact}
 use Rattle.edge_model.specs.Tree.{Tree, node_at, is_directory, tree_positions}
 use Rattle.edge_model.specs.State.{State, Outcome}

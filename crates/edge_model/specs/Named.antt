@@ -4,12 +4,12 @@ use Rattle.std.specs.List.{range_with_len}
 use Rattle.edge_base.specs.declared.geometry.Request.{Request}
 use Rattle.edge_base.specs.declared.refusal.Refusal.{Refusal}
 use Rattle.edge_base.specs.declared.refusal.Refusal.TheVariants as refusal
-use Rattle.edge_base.specs.Refusals.{◌>>=◌, refuse_if, or_refuse}
-use Rattle.edge_base.specs.Places.{max_blocks_of}
-use Rattle.edge_base.specs.Positions.{Position, data_at}
-use Rattle.edge_base.specs.Slots.{Entry, Slots, slots_in_block, slot_blocks, trimmed}
-use Rattle.edge_base.specs.Descriptors.{first_empty}
-use Rattle.edge_base.specs.Nodes.{Node}
+use Rattle.edge_base.specs.commands.Refusals.{◌>>=◌, refuse_if, or_refuse}
+use Rattle.edge_base.specs.layout.Places.{max_blocks_of}
+use Rattle.edge_base.specs.tree.Positions.{Position, data_at}
+use Rattle.edge_base.specs.tree.Slots.{Entry, Slots, slots_in_block, slot_blocks, trimmed}
+use Rattle.edge_base.specs.commands.Descriptors.{first_empty}
+use Rattle.edge_base.specs.tree.Nodes.{Node}
 use Rattle.edge_model.specs.Tree.{Tree, slots_at, with_node, with_slots, free_number}
 use Rattle.edge_model.specs.Walk.{Spot, top, within}
 use Rattle.edge_model.specs.State.{Edit}

@@ -4,13 +4,13 @@ use Rattle.std.specs.List.{list_any}
 use Rattle.edge_base.specs.declared.geometry.Request.{Request}
 use Rattle.edge_base.specs.declared.refusal.Refusal.{Refusal}
 use Rattle.edge_base.specs.declared.refusal.Refusal.TheVariants as refusal
-use Rattle.edge_base.specs.Refusals.{◌>>=◌, refuse_if, or_refuse}
-use Rattle.edge_base.specs.Positions.{Position}
-use Rattle.edge_base.specs.Slots.{Slots}
-use Rattle.edge_base.specs.Descriptors.{is_open}
-use Rattle.edge_base.specs.Events as event
-use Rattle.edge_base.specs.Paths.{names_of, names_in, two_paths}
-use Rattle.edge_base.specs.Nodes.{Node, file, directory}
+use Rattle.edge_base.specs.commands.Refusals.{◌>>=◌, refuse_if, or_refuse}
+use Rattle.edge_base.specs.tree.Positions.{Position}
+use Rattle.edge_base.specs.tree.Slots.{Slots}
+use Rattle.edge_base.specs.commands.Descriptors.{is_open}
+use Rattle.edge_base.specs.commands.Events as event
+use Rattle.edge_base.specs.commands.Paths.{names_of, names_in, two_paths}
+use Rattle.edge_base.specs.tree.Nodes.{Node, file, directory}
 use Rattle.edge_model.specs.Tree.{Tree, node_at, is_directory, slots_at, links_of, with_node, data_positions}
 use Rattle.edge_model.specs.Walk.{Spot, top, within, Found, walk, at_spot, spot_of, is_top, gone_through}
 use Rattle.edge_model.specs.State.{State, Edit, Plan, keeps, changes}

@@ -3,12 +3,12 @@ use Rattle.std.specs.Prelude.{ℕ, ◌+◌, ◌&&◌, ◌||◌, not, Bool, true,
 use Rattle.edge_base.specs.declared.geometry.Request.{Request}
 use Rattle.edge_base.specs.declared.refusal.Refusal.{Refusal}
 use Rattle.edge_base.specs.declared.refusal.Refusal.TheVariants as refusal
-use Rattle.edge_base.specs.Refusals.{◌>>=◌, refuse_if, or_refuse}
-use Rattle.edge_base.specs.Places.{max_size_of}
-use Rattle.edge_base.specs.Descriptors.{Descriptor, Descriptors, descriptor_at, first_empty, is_full}
-use Rattle.edge_base.specs.Events as event
-use Rattle.edge_base.specs.Nodes.{file}
-use Rattle.edge_base.specs.Slots.{Entry, Slots}
+use Rattle.edge_base.specs.commands.Refusals.{◌>>=◌, refuse_if, or_refuse}
+use Rattle.edge_base.specs.layout.Places.{max_size_of}
+use Rattle.edge_base.specs.commands.Descriptors.{Descriptor, Descriptors, descriptor_at, first_empty, is_full}
+use Rattle.edge_base.specs.commands.Events as event
+use Rattle.edge_base.specs.tree.Nodes.{file}
+use Rattle.edge_base.specs.tree.Slots.{Entry, Slots}
 use Rattle.edge_model.specs.declared.command.OpenFlags.{OpenFlags}
 use Rattle.edge_model.specs.Tree.{Tree, is_directory, slots_at, with_node, data_positions}
 use Rattle.edge_model.specs.Walk.{Spot, Found, at_spot, spot_of, found_number}

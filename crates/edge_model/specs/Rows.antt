@@ -6,8 +6,8 @@ use Rattle.edge_base.specs.declared.node.NodeType.{NodeType}
 use Rattle.edge_base.specs.declared.refusal.Refusal.{Refusal}
 use Rattle.edge_model.specs.declared.command.OpenFlags.{OpenFlags}
 use Rattle.edge_model.specs.Asked.{Asked, Reply, status, room}
-use Rattle.edge_base.specs.Slots.{Entry}
-use Rattle.edge_base.specs.Nodes.{file, directory, parent_of}
+use Rattle.edge_base.specs.tree.Slots.{Entry}
+use Rattle.edge_base.specs.tree.Nodes.{file, directory, parent_of}
 use Rattle.edge_model.specs.Tree.{Tree, only_root, with_node, node_at}
 use Rattle.edge_model.specs.Run.{Answered, run_of, closed}
 

@@ -1,9 +1,9 @@
 -- What makes a function from numbers to nodes a tree.
 use Rattle.std.specs.Prelude.{◌≡◌, ◌≢◌, ℕ, ◌+◌, ◌<◌, ◌≤◌, true, List, is_some, slice_get, Bool, Some}
 use Rattle.edge_base.specs.declared.geometry.Request.{Request}
-use Rattle.edge_base.specs.Slots.{Entry, Slots}
-use Rattle.edge_base.specs.Nodes.{Node, file, directory}
-use Rattle.edge_base.specs.NodeRules.{IsNode}
+use Rattle.edge_base.specs.tree.Slots.{Entry, Slots}
+use Rattle.edge_base.specs.tree.Nodes.{Node, file, directory}
+use Rattle.edge_base.specs.tree.NodeRules.{IsNode}
 use Rattle.edge_model.specs.Tree.{Tree, slots_at, names_of_number}
 
 -- a slot of directory d names n

@@ -3,10 +3,10 @@ use Rattle.std.specs.Prelude.{ℕ, ◌+◌, ◌&&◌, Bool, true, false, nat_lt,
 use Rattle.edge_base.specs.declared.geometry.Request.{Request}
 use Rattle.edge_base.specs.declared.refusal.Refusal.{Refusal}
 use Rattle.edge_base.specs.declared.refusal.Refusal.TheVariants.{NoSpace}
-use Rattle.edge_base.specs.Places.{allocable_of}
-use Rattle.edge_base.specs.Positions.{Position, has, count_of, dirty_after}
-use Rattle.edge_base.specs.Descriptors.{Descriptors, none_open}
-use Rattle.edge_base.specs.Events.{Event, has_event, umount, full, default_mask}
+use Rattle.edge_base.specs.layout.Places.{allocable_of}
+use Rattle.edge_base.specs.tree.Positions.{Position, has, count_of, dirty_after}
+use Rattle.edge_base.specs.commands.Descriptors.{Descriptors, none_open}
+use Rattle.edge_base.specs.commands.Events.{Event, has_event, umount, full, default_mask}
 use Rattle.edge_model.specs.Tree.{Tree, tree_positions}
 use Rattle.edge_model.specs.Asked.{Reply}
 

@@ -3,11 +3,11 @@ use Rattle.std.specs.Prelude.{ℕ, ◌-◌, true, nat_lt, List, replicate, Resul
 use Rattle.edge_base.specs.declared.geometry.Request.{Request}
 use Rattle.edge_base.specs.declared.refusal.Refusal.{Refusal}
 use Rattle.edge_base.specs.declared.refusal.Refusal.TheVariants as refusal
-use Rattle.edge_base.specs.Refusals.{◌>>=◌, refuse_if}
-use Rattle.edge_base.specs.Places.{allocable_of}
-use Rattle.edge_base.specs.Positions.{count_of}
-use Rattle.edge_base.specs.Events.{greatest_mask}
-use Rattle.edge_base.specs.Nodes.{kind_of, size_of}
+use Rattle.edge_base.specs.commands.Refusals.{◌>>=◌, refuse_if}
+use Rattle.edge_base.specs.layout.Places.{allocable_of}
+use Rattle.edge_base.specs.tree.Positions.{count_of}
+use Rattle.edge_base.specs.commands.Events.{greatest_mask}
+use Rattle.edge_base.specs.tree.Nodes.{kind_of, size_of}
 use Rattle.edge_model.specs.Tree.{Tree, node_at, tree_positions, links_of, free_numbers}
 use Rattle.edge_model.specs.Walk.{at_spot, spot_of, found_number}
 use Rattle.edge_model.specs.State.{State, Plan, Outcome, keeps, in_use, outcome_of}

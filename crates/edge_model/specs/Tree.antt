@@ -3,9 +3,9 @@ use Rattle.std.specs.Prelude.{ℕ, ◌==◌, Bool, true, false, is_some, not, na
 use Rattle.std.specs.List.{range_with_len}
 use Rattle.std.specs.Map.{update}
 use Rattle.edge_base.specs.declared.geometry.Request.{Request}
-use Rattle.edge_base.specs.Positions.{Position, data_at, positions_of}
-use Rattle.edge_base.specs.Slots.{Entry, Slots}
-use Rattle.edge_base.specs.Nodes.{Node, file, directory, indices_of}
+use Rattle.edge_base.specs.tree.Positions.{Position, data_at, positions_of}
+use Rattle.edge_base.specs.tree.Slots.{Entry, Slots}
+use Rattle.edge_base.specs.tree.Nodes.{Node, file, directory, indices_of}
 
 abbrev pub Tree : Type 0
 Tree = ℕ → Option Node

@@ -4,9 +4,9 @@ use Rattle.std.specs.Str.{bytes_eq}
 use Rattle.edge_base.specs.declared.geometry.Request.{Request}
 use Rattle.edge_base.specs.declared.refusal.Refusal.{Refusal}
 use Rattle.edge_base.specs.declared.refusal.Refusal.TheVariants.{NotDir, NoEntry}
-use Rattle.edge_base.specs.Refusals.{◌>>=◌, refuse_if}
-use Rattle.edge_base.specs.Slots.{Slots}
-use Rattle.edge_base.specs.Paths.{names_of, names_in}
+use Rattle.edge_base.specs.commands.Refusals.{◌>>=◌, refuse_if}
+use Rattle.edge_base.specs.tree.Slots.{Slots}
+use Rattle.edge_base.specs.commands.Paths.{names_of, names_in}
 use Rattle.edge_model.specs.Tree.{Tree, is_directory, slots_at}
 
 -- a slot and the number that it names

@@ -1,8 +1,10 @@
 ghost use Rattle.std.specs.Prelude.{◌≡◌, ◌≤◌, ◌^◌, ℕ, ◌+◌, ◌-◌, ◌∷◌, [], Bool, true, false, List, length, is_ok, if◌then◌else◌, IfOk, OnOk, Option, Err};
 ghost use Rattle.edge_base.specs.declared.damage.Damage.{Damage};
+ghost use Rattle.edge_base.specs.outside.Below.{Origin, SameBelow};
+ghost use Rattle.edge_base.specs.outside.Faults.{TellsCause};
 ghost use Rattle.edge_model.specs.declared.ask.AskFault.TheVariants.{Damaged};
 ghost use Rattle.edge_model.specs.Asked.{Asked, asked, told_by};
-ghost use Rattle.edge_model.specs.Asking.{Origin, IsInLimits, HasCause, IsAt, HasCome, OpensAfter, IsInBuffer, SameBelow, is_quiet, mask_after, may_set_mask, may_open_or_close};
+ghost use Rattle.edge_model.specs.Asking.{IsInLimits, damage_of, IsAt, HasCome, OpensAfter, IsInBuffer, is_quiet, mask_after, may_set_mask, may_open_or_close};
 ghost use Rattle.edge_model.specs.Run.{closing_trees, closing_state};
 ghost use Rattle.edge_model.specs.State.{State, Outcome};
 ghost use Rattle.edge_model.specs.Step.{step};
@@ -72,7 +74,7 @@ pub trait Ask {
         requires limits { IsInLimits (asked c) }
         ensures origin { origin self.new ≡ origin self.old }
         ensures live { live self.new ≡ is_ok result }
-        ensures cause { HasCause result (faults self.old) (faults self.new) (damage self.old) (damage self.new) }
+        ensures cause { TellsCause damage_of result (faults self.old) (faults self.new) (damage self.old) (damage self.new) }
         ensures undamaged { (s : State) → stands_for self.old s → (d : Damage) → result ≡ Err (Damaged d) → ⊥ }
         ensures never_falls { reached self.old ≤ reached self.new }
         ensures two_points { reached self.new ≤ reached self.old + 2 }
@@ -94,7 +96,7 @@ pub trait Ask {
         requires points { reached self.old ≤ 2 ^ 62 }
         ensures origin { origin self.new ≡ origin self.old }
         ensures live { live self.new ≡ is_ok result }
-        ensures cause { HasCause result (faults self.old) (faults self.new) (damage self.old) (damage self.new) }
+        ensures cause { TellsCause damage_of result (faults self.old) (faults self.new) (damage self.old) (damage self.new) }
         ensures undamaged { (s : State) → stands_for self.old s → (d : Damage) → result ≡ Err (Damaged d) → ⊥ }
         ensures never_falls { reached self.old ≤ reached self.new }
         ensures one_point { reached self.new ≤ reached self.old + 1 }

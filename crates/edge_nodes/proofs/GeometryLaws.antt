@@ -5,8 +5,8 @@ use Rattle.std.proofs.lemmas.Bool.Decides.{nat_tests}
 use Rattle.edge_base.specs.declared.geometry.BadGeometry.{BadGeometry}
 use Rattle.edge_base.specs.declared.geometry.BadGeometry.TheVariants.{BlockSize, Blocks, Inodes, NameMax, Pointers, Room, External}
 use Rattle.edge_base.specs.declared.geometry.Request.{Request}
-use Rattle.edge_base.specs.Sizes.{is_block_size}
-use Rattle.edge_base.specs.Places.{IsGeometry, IsWithinLimits, bad_geometry, is_inline_of, entries_of, allocable_of, imap_nodes_of, root_bits_of}
+use Rattle.edge_base.specs.layout.Sizes.{is_block_size}
+use Rattle.edge_base.specs.layout.Places.{IsGeometry, IsWithinLimits, bad_geometry, is_inline_of, entries_of, allocable_of, imap_nodes_of, root_bits_of}
 
 kept : (broken : Bool) (limit : BadGeometry) (rest : Option BadGeometry) → cond broken (Some limit) rest ≡ None → (broken ≡ false) × (rest ≡ None)
 kept false limit rest e = (refl, e)

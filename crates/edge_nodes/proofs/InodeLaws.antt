@@ -7,10 +7,10 @@ use Rattle.edge_base.specs.declared.node.Head.{Head}
 use Rattle.edge_base.specs.declared.node.NodeType.{NodeType}
 use Rattle.edge_base.specs.declared.node.NodeType.TheVariants.{File, Directory}
 use Rattle.edge_base.specs.declared.node.NodeFault.TheVariants.{WrongSignature, WrongWord, WrongField}
-use Rattle.edge_base.specs.Places.{entries_of}
-use Rattle.edge_base.specs.Word.{check_word_of}
-use Rattle.edge_base.specs.Bytes.{number_at, numbers_at, signature_in}
-use Rattle.edge_base.specs.Spelling.{inode_signature, number_of_kind, SpellsInode, head_fields, inode_in}
+use Rattle.edge_base.specs.layout.Places.{entries_of}
+use Rattle.edge_base.specs.layout.Word.{check_word_of}
+use Rattle.edge_base.specs.layout.Bytes.{number_at, numbers_at, signature_in}
+use Rattle.edge_base.specs.layout.Spelling.{inode_signature, number_of_kind, SpellsInode, head_fields, inode_in}
 use Rattle.edge_nodes.proofs.HeaderLaws.{passed, held, passes, holds}
 
 -- the kind that a mode gives, as reading has it

@@ -5,10 +5,10 @@ use Rattle.std.proofs.lemmas.Bool.{eqb-true, eq-eqb}
 use Rattle.edge_base.specs.declared.geometry.BadGeometry.{BadGeometry}
 use Rattle.edge_base.specs.declared.node.Master.{Master}
 use Rattle.edge_base.specs.declared.node.NodeFault.TheVariants.{WrongSignature, WrongWord, WrongField}
-use Rattle.edge_base.specs.Places.{bad_geometry}
-use Rattle.edge_base.specs.Word.{check_word_of}
-use Rattle.edge_base.specs.Bytes.{number_at, signature_in, is_zero}
-use Rattle.edge_base.specs.Spelling.{master_signature, SpellsMaster, request_in, master_in}
+use Rattle.edge_base.specs.layout.Places.{bad_geometry}
+use Rattle.edge_base.specs.layout.Word.{check_word_of}
+use Rattle.edge_base.specs.layout.Bytes.{number_at, signature_in, is_zero}
+use Rattle.edge_base.specs.layout.Spelling.{master_signature, SpellsMaster, request_in, master_in}
 use Rattle.edge_nodes.proofs.BytesLaws.{zero_behind, is_zero-behind}
 use Rattle.edge_nodes.proofs.HeaderLaws.{passed, held, passes, holds}
 

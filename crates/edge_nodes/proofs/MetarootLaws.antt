@@ -4,10 +4,10 @@ use Rattle.std.proofs.lemmas.Bool.{eqb-true, eq-eqb}
 use Rattle.edge_base.specs.declared.geometry.Request.{Request}
 use Rattle.edge_base.specs.declared.node.Metaroot.{Metaroot}
 use Rattle.edge_base.specs.declared.node.NodeFault.TheVariants.{WrongSignature, WrongWord, WrongField}
-use Rattle.edge_base.specs.Places.{root_bits_of}
-use Rattle.edge_base.specs.Word.{check_word_of}
-use Rattle.edge_base.specs.Bytes.{number_at, signature_in, clear_from}
-use Rattle.edge_base.specs.Spelling.{metaroot_signature, SpellsMetaroot, metaroot_fields, metaroot_in}
+use Rattle.edge_base.specs.layout.Places.{root_bits_of}
+use Rattle.edge_base.specs.layout.Word.{check_word_of}
+use Rattle.edge_base.specs.layout.Bytes.{number_at, signature_in, clear_from}
+use Rattle.edge_base.specs.layout.Spelling.{metaroot_signature, SpellsMetaroot, metaroot_fields, metaroot_in}
 use Rattle.edge_nodes.proofs.BytesLaws.{clear_behind, clear_from-behind}
 use Rattle.edge_nodes.proofs.HeaderLaws.{passed, passes}
 

@@ -7,9 +7,9 @@ use Rattle.std.proofs.lemmas.List.FromFn.{fill_by_all}
 use borrow.Rule.Slice.PartMut.{put_mid}
 use Rattle.byteorder.specs.Endian.{little_from, little_bytes, big_from, big_bytes}
 use Rattle.byteorder.specs.Numbers.{little_number-reads_back, big_number-reads_back, length-bytes_low_first, length-bytes_high_first, little_from-take, big_from-take}
-use Rattle.edge_base.specs.Bytes.{number_at, numbers_at, signature_in}
-use Rattle.edge_base.specs.Word.{check_word_of}
-use Rattle.edge_base.specs.Spelling.{IsNode}
+use Rattle.edge_base.specs.layout.Bytes.{number_at, numbers_at, signature_in}
+use Rattle.edge_base.specs.layout.Word.{check_word_of}
+use Rattle.edge_base.specs.layout.Spelling.{IsNode}
 use Rattle.edge_nodes.specs.Writing.{ChangesOnly}
 
 -- ---- what is read behind or before a place

@@ -1,6 +1,6 @@
 -- What a write into a block leaves as it was.
 use Rattle.std.specs.Prelude.{◌≡◌, ℕ, ◌+◌, ◌≤◌, List, take, drop}
-use Rattle.edge_base.specs.Bytes.{number_at, signature_in}
+use Rattle.edge_base.specs.layout.Bytes.{number_at, signature_in}
 
 -- Only bytes between two places changed: the lists before and behind them are the old ones, and so is what is read there.
 pub record ChangesOnly (from to : ℕ) (old new : List ℕ) : Type 0 where

@@ -1,5 +1,5 @@
 ghost use Rattle.std.specs.Prelude.{◌≡◌, ◌+◌, ◌*◌, ◌/◌, ◌<◌, ◌≤◌, length, drop};
-ghost use Rattle.edge_base.specs.Bytes.{number_at, bit_in, clear_from};
+ghost use Rattle.edge_base.specs.layout.Bytes.{number_at, bit_in, clear_from};
 
 use crate::reading::u32_at;
 

@@ -1,5 +1,5 @@
 ghost use Rattle.std.specs.Prelude.{◌≡◌, ◌+◌, ◌*◌, ◌≤◌};
-ghost use Rattle.edge_base.specs.Places.{IsGeometry, entries_of, root_bits_of};
+ghost use Rattle.edge_base.specs.layout.Places.{IsGeometry, entries_of, root_bits_of};
 
 use edge_base::Geometry;
 

@@ -1,7 +1,7 @@
 ghost use Rattle.std.specs.Prelude.{◌≡◌, ◌≤◌, ℕ, List, length, IfOk};
-ghost use Rattle.edge_base.specs.Bytes.{number_at, numbers_at};
-ghost use Rattle.edge_base.specs.Places.{entries_of};
-ghost use Rattle.edge_base.specs.Spelling.{inode_in, head_fields, number_of_kind, SpellsInode};
+ghost use Rattle.edge_base.specs.layout.Bytes.{number_at, numbers_at};
+ghost use Rattle.edge_base.specs.layout.Places.{entries_of};
+ghost use Rattle.edge_base.specs.layout.Spelling.{inode_in, head_fields, number_of_kind, SpellsInode};
 ghost use Rattle.edge_base.specs.declared.node.Head.{Head};
 ghost use Rattle.edge_base.specs.declared.node.NodeType.TheVariants.{File};
 ghost use Rattle.edge_nodes.specs.Writing.{ChangesOnly};

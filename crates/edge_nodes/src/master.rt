@@ -1,8 +1,8 @@
 ghost use Rattle.std.specs.Prelude.{◌≡◌, ◌≤◌, length, IsTrue, IfOk};
 ghost use Rattle.edge_base.specs.declared.node.Master.{Master};
-ghost use Rattle.edge_base.specs.Sizes.{is_block_size};
+ghost use Rattle.edge_base.specs.layout.Sizes.{is_block_size};
 ghost use Rattle.edge_nodes.specs.Writing.{ChangesOnly};
-ghost use Rattle.edge_base.specs.Spelling.{size_of_log, request_in, master_in, SpellsMaster};
+ghost use Rattle.edge_base.specs.layout.Spelling.{size_of_log, request_in, master_in, SpellsMaster};
 
 use crate::block::block_size;
 use crate::reading::{byte_at, check_header, is_zero_from, u16_at, u32_at, u64_at};

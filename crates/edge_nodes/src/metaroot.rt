@@ -1,8 +1,8 @@
 ghost use Rattle.std.specs.Prelude.{◌≡◌, ◌+◌, ◌*◌, ◌<◌, ◌≤◌, ℕ, List, false, length, drop, IfOk};
-ghost use Rattle.edge_base.specs.Bytes.{number_at, bit_in};
-ghost use Rattle.edge_base.specs.Places.{root_bits_of};
+ghost use Rattle.edge_base.specs.layout.Bytes.{number_at, bit_in};
+ghost use Rattle.edge_base.specs.layout.Places.{root_bits_of};
 ghost use Rattle.edge_nodes.specs.Writing.{ChangesOnly};
-ghost use Rattle.edge_base.specs.Spelling.{metaroot_in, metaroot_fields, SpellsMetaroot};
+ghost use Rattle.edge_base.specs.layout.Spelling.{metaroot_in, metaroot_fields, SpellsMetaroot};
 ghost use Rattle.edge_base.specs.declared.node.Metaroot.{Metaroot};
 
 use crate::bits::are_clear;

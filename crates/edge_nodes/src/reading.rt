@@ -1,5 +1,5 @@
 ghost use Rattle.std.specs.Prelude.{◌≡◌, ◌+◌, ◌<◌, ◌≤◌, length};
-ghost use Rattle.edge_base.specs.Bytes.{number_at, signature_in, is_zero};
+ghost use Rattle.edge_base.specs.layout.Bytes.{number_at, signature_in, is_zero};
 ghost use Rattle.edge_nodes.specs.Headers.{header_in};
 
 use byteorder::{BigEndian, ByteOrder, LittleEndian};

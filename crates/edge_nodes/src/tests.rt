@@ -1,5 +1,5 @@
 ghost use Rattle.std.specs.Prelude.{◌≡◌, IfOk};
-ghost use Rattle.edge_base.specs.Places.{entries_of, root_bits_of};
+ghost use Rattle.edge_base.specs.layout.Places.{entries_of, root_bits_of};
 
 use super::*;
 use edge_base::{BadGeometry, Geometry, Request};

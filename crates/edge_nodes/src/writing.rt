@@ -1,6 +1,6 @@
 ghost use Rattle.std.specs.Prelude.{◌≡◌, ℕ, ◌+◌, ◌*◌, ◌<◌, ◌≤◌, length, take, drop, slice_index};
-ghost use Rattle.edge_base.specs.Bytes.{number_at, numbers_at, signature_in};
-ghost use Rattle.edge_base.specs.Word.{check_word_of};
+ghost use Rattle.edge_base.specs.layout.Bytes.{number_at, numbers_at, signature_in};
+ghost use Rattle.edge_base.specs.layout.Word.{check_word_of};
 ghost use Rattle.edge_nodes.specs.Writing.{ChangesOnly};
 
 use byteorder::{BigEndian, ByteOrder, LittleEndian};

@@ -2,8 +2,8 @@
 use Rattle.std.proofs.Common.{◌≡◌, ℕ, ◌+◌, ◌&&◌, not, Bool, true, false, List, refl, ap, ◌∙◌}
 use Rattle.std.specs.List.{count_by, range_with_len}
 use Rattle.edge_base.specs.declared.geometry.Request.{Request}
-use Rattle.edge_base.specs.Places.{first_allocable_of, allocable_of}
-use Rattle.edge_base.specs.Positions.{Position, count_of}
+use Rattle.edge_base.specs.layout.Places.{first_allocable_of, allocable_of}
+use Rattle.edge_base.specs.tree.Positions.{Position, count_of}
 use Rattle.edge_base.proofs.CountLaws.{count_by-LeadTo-rest, count_by-LeadTo-neither}
 use Rattle.edge_store.specs.View.{View, is_used, is_new, free_now, free_after}
 use Rattle.edge_store.specs.Counted.{Occupy}

@@ -6,8 +6,8 @@ use Rattle.std.proofs.lemmas.Map.{update_apart}
 use Rattle.edge_base.specs.declared.form.Form.{Form}
 use Rattle.edge_base.specs.declared.form.Form.TheVariants.{Plain, Indirect, Double}
 use Rattle.edge_base.specs.declared.geometry.Request.{Request}
-use Rattle.edge_base.specs.Places.{entries_of, pointers_of, max_blocks_of}
-use Rattle.edge_base.specs.Positions.{Position, has, indirect_at, double_at, above_indirect, above_data, positions_of_form}
+use Rattle.edge_base.specs.layout.Places.{entries_of, pointers_of, max_blocks_of}
+use Rattle.edge_base.specs.tree.Positions.{Position, has, indirect_at, double_at, above_indirect, above_data, positions_of_form}
 use Rattle.edge_base.proofs.PositionLaws.{same_position_equiv}
 use Rattle.edge_store.specs.View.{View, Block, Inode, content, content_at, entries_in, entries_of_inode, with_block, with_inode}
 use Rattle.edge_store.specs.Placed.{pointer_at, double_block, indirect_block, data_block, block_at}

@@ -3,8 +3,8 @@ use Rattle.std.proofs.Common.{◌≡◌, ◌≢◌, ℕ, ◌<◌, true, false, L
 use Rattle.edge_base.specs.declared.form.Form.{Form}
 use Rattle.edge_base.specs.declared.form.Form.TheVariants.{Plain, Indirect, Double}
 use Rattle.edge_base.specs.declared.geometry.Request.{Request}
-use Rattle.edge_base.specs.Places.{max_blocks_of}
-use Rattle.edge_base.specs.Positions.{has, data_at, indirect_at, double_at, positions_of}
+use Rattle.edge_base.specs.layout.Places.{max_blocks_of}
+use Rattle.edge_base.specs.tree.Positions.{has, data_at, indirect_at, double_at, positions_of}
 use Rattle.edge_store.specs.View.{View, content, is_owned_by}
 use Rattle.edge_store.specs.Placed.{data_block, HasPlaces, IsOnce}
 use Rattle.edge_store.specs.Frames.{IsNoNodeOf}

@@ -5,8 +5,8 @@ use Rattle.std.proofs.lemmas.Bool.{lt-ltb, le-ltb, cond-true, cond-false, cases_
 use Rattle.edge_base.specs.declared.form.Form.TheVariants.{Indirect, Double}
 use Rattle.edge_base.specs.declared.geometry.Request.{Request}
 use Rattle.edge_base.specs.declared.way.Way.TheVariants as way
-use Rattle.edge_base.specs.Places.{entries_of, pointers_of, max_blocks_of, way_of}
-use Rattle.edge_base.specs.Positions.{indirect_at, above_data}
+use Rattle.edge_base.specs.layout.Places.{entries_of, pointers_of, max_blocks_of, way_of}
+use Rattle.edge_base.specs.tree.Positions.{indirect_at, above_data}
 use Rattle.edge_store.specs.View.{View, entries_of_inode}
 use Rattle.edge_store.specs.Placed.{pointer_at, double_block, indirect_block, data_block, block_at, follow, nodes_on}
 use Rattle.edge_store.proofs.DigitLaws.{row_below, behind, some_pointers}

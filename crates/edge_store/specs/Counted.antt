@@ -1,9 +1,9 @@
 -- The allocable blocks that positions occupy.
 use Rattle.std.specs.Prelude.{ℕ, Bool, List}
 use Rattle.edge_base.specs.declared.geometry.Request.{Request}
-use Rattle.edge_base.specs.Places.{first_allocable_of, allocable_of}
-use Rattle.edge_base.specs.Positions.{Position}
-use Rattle.edge_base.specs.Counting.{LeadTo}
+use Rattle.edge_base.specs.layout.Places.{first_allocable_of, allocable_of}
+use Rattle.edge_base.specs.tree.Positions.{Position}
+use Rattle.edge_base.specs.tree.Counting.{LeadTo}
 use Rattle.edge_store.specs.View.{View}
 use Rattle.edge_store.specs.Placed.{block_at}
 

@@ -2,7 +2,7 @@
 use Rattle.std.specs.Prelude.{◌≡◌, ◌≢◌, ◌<◌, ℕ, true}
 use Rattle.edge_base.specs.declared.form.Form.TheVariants.{Indirect, Double}
 use Rattle.edge_base.specs.declared.geometry.Request.{Request}
-use Rattle.edge_base.specs.Positions.{Position, has, ancestors, positions_of_form}
+use Rattle.edge_base.specs.tree.Positions.{Position, has, ancestors, positions_of_form}
 use Rattle.edge_store.specs.View.{View, content_at, entries_of_inode}
 use Rattle.edge_store.specs.Placed.{block_at, indirect_block, double_block}
 

@@ -2,8 +2,8 @@
 use Rattle.std.specs.Prelude.{◌==◌, ◌&&◌, ◌||◌, not, ℕ, Bool, false, List, filter}
 use Rattle.std.specs.List.{range_with_len}
 use Rattle.edge_base.specs.declared.geometry.Request.{Request}
-use Rattle.edge_base.specs.Places.{max_blocks_of}
-use Rattle.edge_base.specs.Positions.{Position, data_at, has, count_of, positions_of, touched}
+use Rattle.edge_base.specs.layout.Places.{max_blocks_of}
+use Rattle.edge_base.specs.tree.Positions.{Position, data_at, has, count_of, positions_of, touched}
 use Rattle.edge_store.specs.View.{View, is_new}
 use Rattle.edge_store.specs.Placed.{block_at, data_block}
 

@@ -6,11 +6,11 @@ use Rattle.edge_base.specs.declared.form.Form.TheVariants.{Plain, Indirect, Doub
 use Rattle.edge_base.specs.declared.geometry.Request.{Request}
 use Rattle.edge_base.specs.declared.way.Way.{Way}
 use Rattle.edge_base.specs.declared.way.Way.TheVariants as way
-use Rattle.edge_base.specs.Places.{pointers_of, max_size_of}
-use Rattle.edge_base.specs.Slots.{pieces}
-use Rattle.edge_base.specs.Positions.{Position, has, positions_of, positions_of_form}
-use Rattle.edge_base.specs.Nodes.{Node, indices_of, block_of, size_of, kind_of, parent_of}
-use Rattle.edge_base.specs.NodeRules.{IsNode}
+use Rattle.edge_base.specs.layout.Places.{pointers_of, max_size_of}
+use Rattle.edge_base.specs.tree.Slots.{pieces}
+use Rattle.edge_base.specs.tree.Positions.{Position, has, positions_of, positions_of_form}
+use Rattle.edge_base.specs.tree.Nodes.{Node, indices_of, block_of, size_of, kind_of, parent_of}
+use Rattle.edge_base.specs.tree.NodeRules.{IsNode}
 use Rattle.edge_base.specs.declared.node.Head.{Head}
 use Rattle.edge_store.specs.View.{View, whole, bytes, content_at, entries_in, entries_of_inode, is_spot}
 

@@ -6,7 +6,7 @@ use Rattle.edge_base.specs.declared.form.Form.{Form}
 use Rattle.edge_base.specs.declared.form.Form.TheVariants.{Plain, Indirect, Double}
 use Rattle.edge_base.specs.declared.geometry.Request.{Request}
 use Rattle.edge_base.specs.declared.node.Head.{Head}
-use Rattle.edge_base.specs.Places.{entries_of, pointers_of, first_allocable_of, allocable_of}
+use Rattle.edge_base.specs.layout.Places.{entries_of, pointers_of, first_allocable_of, allocable_of}
 
 -- what a number has: a head and its entries, or an inode that cannot be read
 pub data Inode : Type 0 where

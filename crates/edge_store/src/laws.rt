@@ -2,8 +2,8 @@
 
 ghost use Rattle.std.specs.Prelude.{◌≡◌, ◌≢◌, ◌<◌, ℕ, ◌+◌, List, map, Option, None};
 ghost use Rattle.edge_base.specs.declared.geometry.Request.{Request};
-ghost use Rattle.edge_base.specs.Places.{allocable_of, max_blocks_of, way_of};
-ghost use Rattle.edge_base.specs.Positions.{Position, count_of, above_data, positions_of_form};
+ghost use Rattle.edge_base.specs.layout.Places.{allocable_of, max_blocks_of, way_of};
+ghost use Rattle.edge_base.specs.tree.Positions.{Position, count_of, above_data, positions_of_form};
 ghost use Rattle.edge_store.specs.View.{View, Block, Inode, entries_of_inode, with_block, with_inode, is_used, is_new, free_now, free_after};
 ghost use Rattle.edge_store.specs.Placed.{block_at, data_block, follow, nodes_on, HasPlaces, IsOnce};
 ghost use Rattle.edge_store.specs.Counted.{Occupy};

@@ -4,7 +4,7 @@ use Rattle.std.proofs.Common.{◌≡◌, ℕ, zero, suc, ◌+◌, ◌*◌, ◌/�
 use Rattle.std.specs.Int.Bits.{xor_assoc, xor_zero_l, xor_zero_r}
 use Rattle.std.proofs.lemmas.Nat.{xor_shr, xor_mod, xor_block}
 use Rattle.std.proofs.Math.Nat.{pow-suc}
-use Rattle.edge_base.specs.Word.{step, eight_steps}
+use Rattle.edge_base.specs.layout.Word.{step, eight_steps}
 
 xor-cond : (odd : Bool) (h l p : ℕ) → cond odd (bit_xor (bit_xor h l) p) (bit_xor h l) ≡ bit_xor h (cond odd (bit_xor l p) l)
 xor-cond true h l p = xor_assoc h l p

@@ -3,7 +3,7 @@
 #![tactic(auto)]
 
 ghost use Rattle.std.specs.Prelude.{◌≡◌, ℕ};
-ghost use Rattle.edge_base.specs.Word.{after_byte, check_word_of};
+ghost use Rattle.edge_base.specs.layout.Word.{after_byte, check_word_of};
 
 #[cfg(test)]
 mod tests;

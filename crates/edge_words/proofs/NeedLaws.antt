@@ -4,7 +4,7 @@ use Rattle.std.proofs.lemmas.List.{length-append, length-map}
 use Rattle.edge_words.specs.declared.attached.Attached.{Attached}
 use Rattle.edge_words.specs.Words.{Word, Given, Interleaved, option, argument, is_option, words_of}
 use Rattle.edge_words.specs.Reading.{BeginsWithOption, SkipsOptions}
-use Rattle.edge_base.specs.Sizes.{is_block_size}
+use Rattle.edge_base.specs.layout.Sizes.{is_block_size}
 use Rattle.edge_words.specs.Orders.{Asked, Run, Format, Spells, image_of, block_size_of}
 use Rattle.edge_words.specs.Needs.{IsFirstArgument, IsNeedOf, make_blocks_of}
 use Rattle.edge_words.proofs.WordLaws.{rest_reads}

@@ -2,7 +2,7 @@
 use Rattle.std.proofs.Common.{◌≡◌, ℕ, false, ◌==◌, IsTrue, List, [], ◌∷◌, Result, Ok, Err, OnErr, sym, ap, ◌∙◌, subst, codes, arith}
 use Rattle.std.proofs.lemmas.Bool.Decides.{nat_tests}
 use Rattle.std.specs.List.{list_any}
-use Rattle.edge_base.specs.Sizes.{is_block_size}
+use Rattle.edge_base.specs.layout.Sizes.{is_block_size}
 use Rattle.edge_base.specs.declared.geometry.Request.{Request}
 use Rattle.edge_words.specs.Words.{Word, Given, SaysOr}
 use Rattle.edge_words.specs.Orders.{Asked, Run, Format, HasParts, SaysRequest, SpellsRun, SpellsFormat, Spells}

@@ -1,6 +1,6 @@
 -- What has to be attached for the words.
 use Rattle.std.specs.Prelude.{◌≡◌, ◌+◌, ℕ, false, List, [], ◌∷◌, ◌++◌, length, drop, Option, Some, None, is_none, if◌then◌else◌}
-use Rattle.edge_base.specs.Places.{bad_geometry}
+use Rattle.edge_base.specs.layout.Places.{bad_geometry}
 use Rattle.edge_words.specs.declared.attached.Attached.{Attached}
 use Rattle.edge_words.specs.Words.{Word, Given, Interleaved, is_option}
 use Rattle.edge_words.specs.Orders.{Asked, Run, Format, image_of, block_size_of}

@@ -1,6 +1,6 @@
 -- The orders, and which words spell each.
 use Rattle.std.specs.Prelude.{◌≡◌, ◌≢◌, ℕ, IsTrue, List, [], ◌∷◌, codes}
-use Rattle.edge_base.specs.Sizes.{is_block_size}
+use Rattle.edge_base.specs.layout.Sizes.{is_block_size}
 use Rattle.edge_base.specs.declared.geometry.Request.{Request}
 use Rattle.edge_words.specs.declared.order.Order.{Order}
 use Rattle.edge_words.specs.declared.order.Order.TheVariants as orders

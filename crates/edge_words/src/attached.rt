@@ -1,5 +1,5 @@
 ghost use Rattle.std.specs.Prelude.{◌≡◌, IsTrue};
-ghost use Rattle.edge_base.specs.Sizes.{is_block_size};
+ghost use Rattle.edge_base.specs.layout.Sizes.{is_block_size};
 ghost use Rattle.edge_words.specs.Words.{words_of};
 ghost use Rattle.edge_words.specs.Orders.{Asked, Spells, asked_by};
 ghost use Rattle.edge_words.specs.Needs.{IsNeedOf, no_need, make_blocks_of};

@@ -2,7 +2,7 @@ use Rattle.std.proofs.Common.{◌≡◌, ℕ, ◌%◌, ◌/◌, ◌<◌, List, m
 use Rattle.std.specs.List.{range_with_len}
 use Rattle.std.proofs.lemmas.List.FromFn.{get_or-map-range_with_len}
 use Rattle.std.proofs.lemmas.Nat.{and_mask}
-use Rattle.edge_base.specs.Word.{after_byte, eight_steps}
+use Rattle.edge_base.specs.layout.Word.{after_byte, eight_steps}
 use Rattle.edge_word.specs.declared.TheConstants.{STEPS}
 use Rattle.edge_word.proofs.Steps.{eight_steps-by_byte}
 use Rattle.edge_word.proofs.word_after.Goals as goal

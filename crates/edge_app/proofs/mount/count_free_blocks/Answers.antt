@@ -1,5 +1,5 @@
 use Rattle.std.proofs.Common.{◌+◌, ◌-◌, not, ap, ◌∙◌, arith}
-use Rattle.edge_base.specs.Places.{first_allocable_of}
+use Rattle.edge_base.specs.layout.Places.{first_allocable_of}
 use Rattle.edge_image.specs.Image.{is_unused}
 use Rattle.edge_app.proofs.CountLaws.{counts-more, counts-few, as_number, small}
 use Rattle.edge_app.proofs.mount.count_free_blocks.Goals as goal

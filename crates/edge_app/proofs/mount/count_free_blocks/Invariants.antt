@@ -1,6 +1,6 @@
 use Rattle.std.proofs.Common.{◌≡◌, ◌-◌}
 use Rattle.std.specs.List.{count_by, range_with_len}
-use Rattle.edge_base.specs.Places.{first_allocable_of}
+use Rattle.edge_base.specs.layout.Places.{first_allocable_of}
 use Rattle.edge_image.specs.Image.{is_unused}
 use Rattle.edge_app.proofs.mount.count_free_blocks.Given as goal
 

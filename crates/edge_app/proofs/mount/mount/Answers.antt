@@ -1,6 +1,6 @@
 use Rattle.std.proofs.Common.{sym, ap, ◌∙◌, subst, arith}
 use Rattle.std.specs.Prelude.{IsTrue}
-use Rattle.edge_base.specs.Spelling.{master_in}
+use Rattle.edge_base.specs.layout.Spelling.{master_in}
 use Rattle.edge_disk.specs.Image.{shown_image}
 use Rattle.edge_app.proofs.MountLaws.{too_few, no_master, other_size, too_large, judged, judged-same}
 use Rattle.edge_app.proofs.mount.mount.Goals as goal

@@ -2,8 +2,8 @@ use Rattle.std.proofs.Common.{ℕ, arith, ◌++◌, take, Some, sym, ap, ◌∙�
 use Rattle.std.specs.Prelude.{IsTrue}
 use Rattle.edge_disk.specs.Disk.{Origin}
 use Rattle.edge_disk.specs.Image.{shown_image, IsPermitted}
-use Rattle.edge_base.specs.Faults.{Rose}
-use Rattle.edge_base.specs.Nodes.{directory}
+use Rattle.edge_base.specs.outside.Faults.{Rose}
+use Rattle.edge_base.specs.tree.Nodes.{directory}
 use Rattle.edge_image.specs.Opens.{head_of_node}
 use Rattle.edge_image.proofs.ReadyLaws.{opens_ready}
 use Rattle.edge_app.specs.Script.{lines_of}

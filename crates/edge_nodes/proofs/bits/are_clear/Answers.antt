@@ -1,5 +1,5 @@
 use Rattle.std.proofs.Common.{refl, sym, ◌∙◌, true, false}
-use Rattle.edge_base.specs.Bytes.{clear_from}
+use Rattle.edge_base.specs.layout.Bytes.{clear_from}
 use Rattle.edge_nodes.proofs.BytesLaws.{clear_from-front}
 use Rattle.edge_nodes.proofs.bits.are_clear.Goals as goal
 

@@ -1,6 +1,6 @@
 use Rattle.std.proofs.Common.{◌≡◌, ◌-◌, ◌*◌, not}
 use Rattle.std.specs.List.{list_all, range_with_len}
-use Rattle.edge_base.specs.Bytes.{bit_in, clear_from}
+use Rattle.edge_base.specs.layout.Bytes.{bit_in, clear_from}
 use Rattle.edge_nodes.proofs.bits.are_clear.Given as goal
 
 abbrev pub invariant-loop-i : goal.invariant-loop-i

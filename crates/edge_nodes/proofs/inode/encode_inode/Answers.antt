@@ -1,5 +1,5 @@
 use Rattle.std.proofs.Common.{◌≡◌, ℕ, drop, ap, sym, ◌∙◌, arith}
-use Rattle.edge_base.specs.Bytes.{numbers_at}
+use Rattle.edge_base.specs.layout.Bytes.{numbers_at}
 use Rattle.edge_nodes.proofs.WritingLaws.{changes, sealed, numbers_at-back}
 use Rattle.edge_nodes.proofs.inode.encode_inode.Goals as goal
 

@@ -1,5 +1,5 @@
 use Rattle.std.proofs.Common.{◌≡◌, drop, ap, ◌∙◌, arith}
-use Rattle.edge_base.specs.Spelling.{request_in, size_of_log}
+use Rattle.edge_base.specs.layout.Spelling.{request_in, size_of_log}
 use Rattle.edge_nodes.proofs.WritingLaws.{later, changes, sealed, slice_index-back}
 use Rattle.edge_nodes.proofs.master.encode_master.Goals as goal
 

@@ -1,5 +1,5 @@
 use Rattle.std.proofs.Common.{◌≡◌, drop, ap, ◌∙◌, arith}
-use Rattle.edge_base.specs.Bytes.{bit_in}
+use Rattle.edge_base.specs.layout.Bytes.{bit_in}
 use Rattle.edge_nodes.proofs.BytesLaws.{bit_in-drop}
 use Rattle.edge_nodes.proofs.WritingLaws.{changes, sealed}
 use Rattle.edge_nodes.proofs.metaroot.encode_metaroot.Goals as goal

@@ -3,7 +3,7 @@ use Rattle.edge_words.specs.Orders.{asked_by}
 use Rattle.edge_words.proofs.WordLaws.{no_word, first_one}
 use Rattle.edge_words.proofs.NeedLaws.{need_of, spelled_size}
 use Rattle.std.specs.Prelude.{IsTrue}
-use Rattle.edge_base.specs.Sizes.{is_block_size}
+use Rattle.edge_base.specs.layout.Sizes.{is_block_size}
 use Rattle.edge_words.proofs.attached.need.Goals as goal
 
 pub returns-in-Ok-len1-up-clause-spelled : goal.returns-in-Ok-len1-up-clause-spelled

@@ -9,10 +9,10 @@ use Rattle.edge_base.specs.declared.node.NodeType.{NodeType}
 use Rattle.edge_base.specs.declared.node.NodeType.TheVariants.{File, Directory}
 use Rattle.edge_base.specs.declared.node.NodeFault.{NodeFault}
 use Rattle.edge_base.specs.declared.node.NodeFault.TheVariants.{WrongSignature, WrongWord, WrongField}
-use Rattle.edge_base.specs.Places.{IsGeometry, bad_geometry, entries_of, pointers_of, imap_nodes_of, table_start_of, root_bits_of}
-use Rattle.edge_base.specs.Sizes.{node_bits}
-use Rattle.edge_base.specs.Word.{check_word_of}
-use Rattle.edge_base.specs.Bytes.{number_at, numbers_at, signature_in, is_zero, bit_in, clear_from}
+use Rattle.edge_base.specs.layout.Places.{IsGeometry, bad_geometry, entries_of, pointers_of, imap_nodes_of, table_start_of, root_bits_of}
+use Rattle.edge_base.specs.layout.Sizes.{node_bits}
+use Rattle.edge_base.specs.layout.Word.{check_word_of}
+use Rattle.edge_base.specs.layout.Bytes.{number_at, numbers_at, signature_in, is_zero, bit_in, clear_from}
 
 -- ---- the header of every node
 

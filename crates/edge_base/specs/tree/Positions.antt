@@ -4,7 +4,7 @@ use Rattle.std.specs.Set.{is_member, distinct_count}
 use Rattle.edge_base.specs.declared.form.Form.{Form}
 use Rattle.edge_base.specs.declared.form.Form.TheVariants.{Plain, Indirect, Double}
 use Rattle.edge_base.specs.declared.geometry.Request.{Request}
-use Rattle.edge_base.specs.Places.{pointers_of, entries_of, max_blocks_of}
+use Rattle.edge_base.specs.layout.Places.{pointers_of, entries_of, max_blocks_of}
 
 -- The indirect nodes are numbered through: first the single ones, and then those below each double-indirect node.
 pub record Position : Type 0 where

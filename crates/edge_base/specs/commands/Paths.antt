@@ -3,8 +3,8 @@ use Rattle.std.specs.Prelude.{ℕ, ◌==◌, ◌||◌, not, Bool, false, nat_lt,
 use Rattle.std.specs.List.{list_any}
 use Rattle.edge_base.specs.declared.refusal.Refusal.{Refusal}
 use Rattle.edge_base.specs.declared.refusal.Refusal.TheVariants.{Invalid, NameTooLong}
-use Rattle.edge_base.specs.Refusals.{◌>>=◌, refuse_if}
-use Rattle.edge_base.specs.Slots.{is_bad_name}
+use Rattle.edge_base.specs.commands.Refusals.{◌>>=◌, refuse_if}
+use Rattle.edge_base.specs.tree.Slots.{is_bad_name}
 
 abbrev pub onto_first : ℕ → List (List ℕ) → List (List ℕ)
 onto_first b [] = (b ∷ []) ∷ []

@@ -1,6 +1,6 @@
 -- Where things lie on the image of a geometry.
 use Rattle.std.specs.Prelude.{◌≡◌, ℕ, ◌+◌, ◌-◌, ◌*◌, ◌/◌, ◌%◌, ◌<◌, ◌≤◌, Bool, true, ◌==◌, ◌||◌, not, nat_lt, if◌then◌else◌, Option, Some, None, IsTrue}
-use Rattle.edge_base.specs.Sizes.{is_block_size, fits_inline, node_bits, pairs_for, place_of}
+use Rattle.edge_base.specs.layout.Sizes.{is_block_size, fits_inline, node_bits, pairs_for, place_of}
 use Rattle.edge_base.specs.declared.geometry.BadGeometry.{BadGeometry}
 use Rattle.edge_base.specs.declared.geometry.BadGeometry.TheVariants.{BlockSize, Blocks, Inodes, NameMax, Pointers, Room, External}
 use Rattle.edge_base.specs.declared.geometry.Request.{Request}

@@ -3,9 +3,9 @@ use Rattle.std.specs.Prelude.{◌≡◌, ◌≤◌, ◌<◌, ℕ, ◌/◌, ◌+�
 use Rattle.std.specs.List.{IsDistinct}
 use Rattle.std.specs.Str.{bytes_eq}
 use Rattle.edge_base.specs.declared.geometry.Request.{Request}
-use Rattle.edge_base.specs.Places.{max_blocks_of, max_size_of}
-use Rattle.edge_base.specs.Slots.{Entry, Slots, pieces, is_name, slot_blocks, trimmed}
-use Rattle.edge_base.specs.Nodes.{Node, file, directory}
+use Rattle.edge_base.specs.layout.Places.{max_blocks_of, max_size_of}
+use Rattle.edge_base.specs.tree.Slots.{Entry, Slots, pieces, is_name, slot_blocks, trimmed}
+use Rattle.edge_base.specs.tree.Nodes.{Node, file, directory}
 
 -- A file has bytes, at most the greatest size of them, a flag for each block up to its end, and zeros where a block is absent.
 pub record IsFile (g : Request) (content : List ℕ) (present : List Bool) : Type 0 where

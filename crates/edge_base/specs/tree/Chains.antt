@@ -3,7 +3,7 @@ use Rattle.std.specs.Prelude.{ℕ, ◌-◌, ◌/◌, ◌==◌, ◌&&◌, not, Bo
 use Rattle.edge_base.specs.declared.form.Form.{Form}
 use Rattle.edge_base.specs.declared.form.Form.TheVariants.{Plain, Indirect, Double}
 use Rattle.edge_base.specs.declared.geometry.Request.{Request}
-use Rattle.edge_base.specs.Places.{pointers_of}
+use Rattle.edge_base.specs.layout.Places.{pointers_of}
 
 -- whether the chain of data block i has the position of a form and an index
 abbrev pub is_on_chain : Request → Form → ℕ → ℕ → Bool

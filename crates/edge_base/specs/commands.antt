@@ -1,0 +1,4 @@
+pub mod Refusals
+pub mod Paths
+pub mod Events
+pub mod Descriptors

@@ -1,0 +1,5 @@
+pub mod Bytes
+pub mod Word
+pub mod Sizes
+pub mod Places
+pub mod Spelling
