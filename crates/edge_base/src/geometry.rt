@@ -58,7 +58,7 @@ impl Geometry {
     ghost use Rattle.edge_base.specs.layout.Places.{bad_geometry, is_inline_of, imap_nodes_of, HaveRoom, imap_place_of, table_start_of, inode_place_of, first_allocable_of, allocable_of, max_blocks_of, max_size_of, way_of, IsWithinNodes, IsGeometry, IsWithinLimits};
 
     /// The geometry of a request, or the first limit that it breaks.
-    #[tactic(auto, unfolding(crate::specs::Places::bad_geometry))]
+    #[tactic(auto, unfolding(crate::specs::layout::Places::bad_geometry))]
     pub fn checked(r: Request) -> Result<Geometry, BadGeometry>
         ensures { MatchResult result (λ g. (bad_geometry r ≡ None) × (g ≡ r)) (λ e. bad_geometry r ≡ Some e) }
     {
@@ -94,7 +94,7 @@ impl Geometry {
     }
 
     /// What the geometry was made of.
-    #[tactic(auto, unfolding(crate::specs::Places::bad_geometry))]
+    #[tactic(auto, unfolding(crate::specs::layout::Places::bad_geometry))]
     pub fn request(&self) -> Request
         ensures same { result ≡ self.now }
         ensures geometry { IsGeometry self.now }

@@ -16,7 +16,7 @@ fn request(asked: [u32; 6]) -> Request {
 // The places of a geometry: the pairs of imap nodes, the first block of the inode table, both places
 // of the root, the last inode's second place, the first allocable block, the number of allocable
 // blocks, and the greatest number of blocks of a file.
-#[tactic(auto, unfolding(crate::specs::Places::bad_geometry))]
+#[tactic(auto, unfolding(crate::specs::layout::Places::bad_geometry))]
 fn places_of(geometry: &Geometry) -> [u32; 8] {
     let last = geometry.request().inodes + 1;
     [

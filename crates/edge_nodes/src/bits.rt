@@ -20,7 +20,7 @@ pub fn entry_of(b: &[u8], from: u32, i: u32) -> u32
 }
 
 /// Whether bit i of the bitmap that begins at a place is set.
-#[tactic(auto, unfolding(edge_base::specs::Bytes::bit_in))]
+#[tactic(auto, unfolding(edge_base::specs::layout::Bytes::bit_in))]
 pub fn bit_of(b: &[u8], from: u32, i: u32) -> bool
     requires { from + i / 8 < length b.now }
     ensures { result ≡ bit_in from b.now i }

@@ -42,7 +42,7 @@ pub fn decode_inode(g: &Geometry, b: &[u8]) -> Result<Head, NodeFault>
 }
 
 // Tests the fields in rising order.
-#[tactic(auto, unfolding(edge_base::specs::Spelling::inode_in, edge_base::specs::Spelling::head_fields))]
+#[tactic(auto, unfolding(edge_base::specs::layout::Spelling::inode_in, edge_base::specs::layout::Spelling::head_fields))]
 fn read_inode(b: &[u8]) -> Result<Head, NodeFault>
     requires { 32 ≤ length b.now }
     ensures { result ≡ inode_in b.now }

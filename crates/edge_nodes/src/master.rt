@@ -39,7 +39,7 @@ pub fn decode_master(b: &[u8]) -> Result<Master, NodeFault>
 }
 
 // Tests the fields in rising order.
-#[tactic(auto, unfolding(edge_base::specs::Spelling::master_in))]
+#[tactic(auto, unfolding(edge_base::specs::layout::Spelling::master_in))]
 fn read_master(b: &[u8]) -> Result<Master, NodeFault>
     requires { 48 ≤ length b.now }
     ensures { result ≡ master_in b.now }
@@ -68,7 +68,7 @@ fn read_master(b: &[u8]) -> Result<Master, NodeFault>
 }
 
 // The numbers of a geometry, whether or not they are one.
-#[tactic(auto, unfolding(edge_base::specs::Spelling::request_in))]
+#[tactic(auto, unfolding(edge_base::specs::layout::Spelling::request_in))]
 fn request_of(b: &[u8]) -> Request
     requires { 48 ≤ length b.now }
     ensures { result ≡ request_in b.now }
@@ -97,7 +97,7 @@ fn size_of(log: u8) -> u32
 }
 
 // Writes the numbers of a geometry.
-#[tactic(auto, unfolding(edge_base::specs::Spelling::request_in))]
+#[tactic(auto, unfolding(edge_base::specs::layout::Spelling::request_in))]
 fn put_geometry(b: &mut [u8], g: &Geometry)
     requires { 48 ≤ length b.old }
     ensures request { request_in b.new ≡ g.now }

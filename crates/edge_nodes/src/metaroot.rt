@@ -41,7 +41,7 @@ pub fn decode_metaroot(g: &Geometry, b: &[u8]) -> Result<Metaroot, NodeFault>
 }
 
 // Tests the fields in rising order.
-#[tactic(auto, unfolding(edge_base::specs::Spelling::metaroot_in, edge_base::specs::Spelling::metaroot_fields))]
+#[tactic(auto, unfolding(edge_base::specs::layout::Spelling::metaroot_in, edge_base::specs::layout::Spelling::metaroot_fields))]
 fn read_metaroot(g: &Geometry, b: &[u8]) -> Result<Metaroot, NodeFault>
     requires least { 32 ≤ length b.now }
     requires most { length b.now ≤ 4096 }

@@ -6,7 +6,7 @@ use byteorder::{BigEndian, ByteOrder, LittleEndian};
 use edge_base::NodeFault;
 use edge_word::check_word;
 
-#[tactic(auto, unfolding(edge_base::specs::Bytes::number_at))]
+#[tactic(auto, unfolding(edge_base::specs::layout::Bytes::number_at))]
 pub(crate) fn byte_at(b: &[u8], at: usize) -> u8
     requires { at < length b.now }
     ensures { result ≡ number_at at 1 b.now }
@@ -14,7 +14,7 @@ pub(crate) fn byte_at(b: &[u8], at: usize) -> u8
     b[at]
 }
 
-#[tactic(auto, unfolding(edge_base::specs::Bytes::number_at))]
+#[tactic(auto, unfolding(edge_base::specs::layout::Bytes::number_at))]
 pub(crate) fn u16_at(b: &[u8], at: usize) -> u16
     requires { at + 2 ≤ length b.now }
     ensures { result ≡ number_at at 2 b.now }
@@ -22,7 +22,7 @@ pub(crate) fn u16_at(b: &[u8], at: usize) -> u16
     LittleEndian::read_u16(&b[at..])
 }
 
-#[tactic(auto, unfolding(edge_base::specs::Bytes::number_at))]
+#[tactic(auto, unfolding(edge_base::specs::layout::Bytes::number_at))]
 pub(crate) fn u32_at(b: &[u8], at: usize) -> u32
     requires { at + 4 ≤ length b.now }
     ensures { result ≡ number_at at 4 b.now }
@@ -30,7 +30,7 @@ pub(crate) fn u32_at(b: &[u8], at: usize) -> u32
     LittleEndian::read_u32(&b[at..])
 }
 
-#[tactic(auto, unfolding(edge_base::specs::Bytes::number_at))]
+#[tactic(auto, unfolding(edge_base::specs::layout::Bytes::number_at))]
 pub(crate) fn u64_at(b: &[u8], at: usize) -> u64
     requires { at + 8 ≤ length b.now }
     ensures { result ≡ number_at at 8 b.now }
@@ -38,7 +38,7 @@ pub(crate) fn u64_at(b: &[u8], at: usize) -> u64
     LittleEndian::read_u64(&b[at..])
 }
 
-#[tactic(auto, unfolding(edge_base::specs::Bytes::is_zero))]
+#[tactic(auto, unfolding(edge_base::specs::layout::Bytes::is_zero))]
 pub(crate) fn is_zero_from(b: &[u8], from: usize) -> bool
     requires { from ≤ length b.now }
     ensures { result ≡ is_zero from (length b.now) b.now }
@@ -46,7 +46,7 @@ pub(crate) fn is_zero_from(b: &[u8], from: usize) -> bool
     b[from..].iter().all(|x| *x == 0)
 }
 
-#[tactic(auto, unfolding(edge_base::specs::Bytes::signature_in))]
+#[tactic(auto, unfolding(edge_base::specs::layout::Bytes::signature_in))]
 fn signature(b: &[u8]) -> u32
     requires { 4 ≤ length b.now }
     ensures { result ≡ signature_in b.now }

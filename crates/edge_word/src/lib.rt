@@ -47,7 +47,7 @@ static STEPS: [u32; 256] = [
 
 /// The check word: the usual reflected CRC-32, with 0xFFFFFFFF as the first word and as the last
 /// exclusive-or. Of no bytes it is 0.
-#[tactic(auto, unfolding(edge_base::specs::Word::check_word_of))]
+#[tactic(auto, unfolding(edge_base::specs::layout::Word::check_word_of))]
 pub fn check_word(bytes: &[u8]) -> u32
     ensures { result ≡ check_word_of bytes.now }
 {
