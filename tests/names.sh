@@ -188,11 +188,19 @@ sections() {
 
 # ---- files
 
+# Whether a path leads somewhere: from the top, from crates/ or docs/, or in a crate.
+leads() {
+    for place in "$1" "crates/$1" "docs/$1" crates/*/"$1"; do
+        [ -e "$place" ] && return
+    done
+    return 1
+}
+
 # Lines 'FILE:LINE: no file NAME' for each path in a code span or a link that leads nowhere.
 absent() {
     grep -no '`[A-Za-z_0-9./-]*/[A-Za-z_0-9.-]*\.\(rt\|antt\|sh\|md\|img\|txt\)`' $documents | tr -d '`' |
         while IFS=: read -r file line path; do
-            [ -e "$path" ] || [ -e "crates/$path" ] || [ -e "docs/$path" ] || echo "$file:$line: no file $path"
+            leads "$path" || echo "$file:$line: no file $path"
         done
     grep -no '](\([A-Za-z_0-9./-]*\)[)#]' $documents | sed 's/](//; s/[)#]$//' |
         while IFS=: read -r file line path; do
