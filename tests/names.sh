@@ -9,7 +9,8 @@
 # A name is cited in a code span. `call: one, two` are clauses of a call, or fields of a record of specs/;
 # the call may stand behind its type, and that behind its crate, as in `edge_disk::MemoryDisk::read: fails`.
 # In a section of docs/PROMISES.md whose heading begins with a crate, each span in the first column of a
-# table is such a name of that crate, also without a clause; so is each in a crate's row of README.md.
+# table is such a name of that crate, also without a clause; so is each in a crate's row of README.md, and
+# each in the first column of docs/DEFINITIONS.md, of any crate.
 set -eu
 cd "$(dirname "$0")/.."
 
@@ -110,7 +111,7 @@ cited() {
         row = $0; sub(/^\| `/, "", row); sub(/`.*/, "", row)
         rest = $0; sub(/^\| `[a-z_]*` \|/, "", rest); spans(rest, row, 1); next
     }
-    crate != "-" && /^\|/ {
+    (crate != "-" || FILENAME ~ /DEFINITIONS/) && /^\|/ {
         first = $0; sub(/^\|/, "", first); rest = first; sub(/\|.*/, "", first); sub(/^[^|]*\|/, "", rest)
         spans(first, crate, 1); spans(rest, crate, 0); next
     }
