@@ -9,7 +9,7 @@ use Rattle.std.proofs.lemmas.Slice.{between_is}
 use Rattle.std.specs.Prelude.{Contains, IsTrue}
 use Rattle.edge_disk.specs.declared.slot.Slot.{Slot}
 use Rattle.edge_base.specs.layout.Sizes.{is_block_size}
-use Rattle.edge_disk.specs.CandidateLaws.{candidate_length}
+use Rattle.edge_disk.specs.CandidateLaws.{candidate_bytes}
 use Rattle.edge_disk.specs.declared.memory.MemoryDisk.{MemoryDisk}
 use Rattle.edge_disk.specs.Image.{image_in, IsPermitted, IsPlain}
 use Rattle.edge_disk.specs.Memory.{origin_of, candidates_of, may_hold_of, is_sure_of, picked_of}
@@ -54,7 +54,7 @@ pub picked_is_candidate : (d : MemoryDisk) (pick : List ℕ) (b : ℕ) → slice
 picked_is_candidate d pick b there = is_candidate (candidates_of d b) (slice_index pick b) there
 
 pub picked_is_whole : (d : MemoryDisk) (pick : List ℕ) (b : ℕ) → b < length d.image.items → slice_index pick b < length (candidates_of d b) → length (picked_of d pick b) ≡ d.block_size
-picked_is_whole d pick b in_range there = candidate_length d.block_size d.image.items d.used d.slots.items b (picked_of d pick b) in_range d.whole_blocks d.whole_slots (picked_is_candidate d pick b there)
+picked_is_whole d pick b in_range there = (candidate_bytes d.block_size d.image.items d.used d.slots.items b (picked_of d pick b) in_range d.whole_blocks d.whole_slots (picked_is_candidate d pick b there)).0
 
 some_bytes : (n : ℕ) → IsTrue (is_block_size n) → 0 < n
 some_bytes n known = grind (arith, nat_tests)

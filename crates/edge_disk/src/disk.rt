@@ -1,4 +1,4 @@
-ghost use Rattle.std.specs.Prelude.{◌≡◌, ◌<◌, ◌^◌, ℕ, List, length, OnOk, IsTrue};
+ghost use Rattle.std.specs.Prelude.{◌≡◌, ◌<◌, ◌^◌, ℕ, List, length, All, OnOk, IsTrue};
 ghost use Rattle.edge_base.specs.outside.Below.{SameBelow};
 ghost use Rattle.edge_base.specs.outside.Faults.{HasCause};
 ghost use Rattle.edge_base.specs.layout.Sizes.{is_block_size};
@@ -70,6 +70,13 @@ pub trait Disk {
     ghost whole_blocks: { (d : Self) (b : ℕ) → IsTrue (origin d).shows → b < (origin d).blocks → length (shown d b) ≡ (origin d).block_size };
 
     ghost whole_candidates: { (d : Self) (b : ℕ) (c : List ℕ) → b < (origin d).blocks → may_hold d b c → length c ≡ (origin d).block_size };
+
+    // Each number in them is a byte.
+    ghost shown_bytes: { (d : Self) (b : ℕ) → IsTrue (origin d).shows →
+        b < (origin d).blocks → All (λ byte. byte < 256) (shown d b) };
+
+    ghost candidate_bytes: { (d : Self) (b : ℕ) (c : List ℕ) → b < (origin d).blocks →
+        may_hold d b c → All (λ byte. byte < 256) c };
 
     // The bytes that reads give are always a candidate, and the only one where there is one alone.
     ghost shown_is_kept: { (d : Self) (b : ℕ) → IsTrue (origin d).keeps → may_hold d b (shown d b) };

@@ -56,7 +56,7 @@ impl Disk for MemoryDisk {
     ghost use Rattle.edge_base.specs.outside.Faults.{HasCause};
     ghost use Rattle.edge_disk.specs.Disk.{ShownAfterWrite, MayAfterWrite, SureAfterWrite, MayAfterFlush, SureAfterFlush};
     ghost use Rattle.edge_disk.specs.Memory.{origin_of, shown_of, may_hold_of, is_sure_of, faults_of, IsListed, IsFull, CountsCall, SameExtra, ExtraAfterWrite, ExtraAfterFlush};
-    ghost use Rattle.edge_disk.specs.CandidateLaws.{block_length, candidate_length, shown_is_candidate, only_shown};
+    ghost use Rattle.edge_disk.specs.CandidateLaws.{block_bytes, candidate_bytes, shown_is_candidate, only_shown};
 
     ghost origin = { origin_of };
 
@@ -154,9 +154,14 @@ impl Disk for MemoryDisk {
 
     ghost known_size = { λ d. d.known_size };
 
-    ghost whole_blocks = { λ d b shows in_range. block_length _ _ b in_range d.whole_blocks };
+    ghost whole_blocks = { λ d b shows in_range. (block_bytes _ _ b in_range d.whole_blocks).0 };
 
-    ghost whole_candidates = { λ d b c in_range may. candidate_length _ _ _ _ b c in_range d.whole_blocks d.whole_slots may };
+    ghost whole_candidates = { λ d b c in_range may. (candidate_bytes _ _ _ _ b c in_range d.whole_blocks d.whole_slots may).0 };
+
+    ghost shown_bytes = { λ d b shows in_range. (block_bytes _ _ b in_range d.whole_blocks).1 };
+
+    ghost candidate_bytes = { λ d b c in_range may.
+        (candidate_bytes _ _ _ _ b c in_range d.whole_blocks d.whole_slots may).1 };
 
     ghost shown_is_kept = { λ d b keeps. shown_is_candidate _ _ };
 

@@ -26,7 +26,7 @@ impl Disk for SureDisk {
     ghost use Rattle.edge_base.specs.outside.Faults.{HasCause};
     ghost use Rattle.edge_disk.specs.Disk.{ShownAfterWrite, MayAfterWrite, SureAfterWrite, MayAfterFlush, SureAfterFlush};
     ghost use Rattle.edge_disk.specs.Sure.{origin_of, shown_of, may_hold_of, is_sure_of, faults_of};
-    ghost use Rattle.edge_disk.specs.CandidateLaws.{block_length};
+    ghost use Rattle.edge_disk.specs.CandidateLaws.{block_bytes};
 
     ghost origin = { origin_of };
 
@@ -100,9 +100,13 @@ impl Disk for SureDisk {
 
     ghost known_size = { λ d. d.known_size };
 
-    ghost whole_blocks = { λ d b shows in_range. block_length _ _ b in_range d.whole_blocks };
+    ghost whole_blocks = { λ d b shows in_range. (block_bytes _ _ b in_range d.whole_blocks).0 };
 
     ghost whole_candidates = { λ d b c in_range may. absurd may };
+
+    ghost shown_bytes = { λ d b shows in_range. (block_bytes _ _ b in_range d.whole_blocks).1 };
+
+    ghost candidate_bytes = { λ d b c in_range may. absurd may };
 
     ghost shown_is_kept = { λ d b keeps. absurd (false≢true keeps) };
 

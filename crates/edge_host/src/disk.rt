@@ -138,6 +138,10 @@ impl Disk for HostDisk {
 
     ghost whole_candidates = { λ d b c inside may. absurd may };
 
+    ghost shown_bytes = { λ d b shows. Prim.cc shows };
+
+    ghost candidate_bytes = { λ d b c inside may. absurd may };
+
     ghost shown_is_kept = { λ d b keeps. Prim.cc keeps };
 
     ghost sure_is_shown = { λ d b c sure may. absurd sure };
