@@ -5,7 +5,8 @@ ghost use Rattle.edge_base.specs.layout.Spelling.{inode_in};
 ghost use Rattle.edge_base.specs.outside.Below.{SameBelow};
 ghost use Rattle.edge_base.specs.outside.Faults.{Rose};
 ghost use Rattle.edge_disk.specs.Image.{shown_image};
-ghost use Rattle.edge_image.specs.Image.{place_of, head_told, head_of, root_number, kind_of, reason_of};
+ghost use Rattle.edge_image.specs.Image.{place_of, head_told, head_of, root_number, reason_of};
+ghost use Rattle.edge_store.specs.View.{kind_of_fault};
 ghost use Rattle.edge_app.specs.Mount.{IsUntouched, IsVolume, untouched, untouched-twice};
 ghost use Rattle.edge_app.specs.Volume.{Tells, VolumeCount, MountCount, MountTold};
 
@@ -52,7 +53,7 @@ pub struct Volume<D: Disk> {
 
 // The damage that a fault of an inode is.
 fn kind_of(fault: NodeFault) -> DamageKind
-    ensures { result ≡ kind_of fault }
+    ensures { result ≡ kind_of_fault fault }
 {
     match fault {
         NodeFault::WrongSignature => DamageKind::WrongSignature,

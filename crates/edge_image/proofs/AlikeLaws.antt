@@ -12,11 +12,11 @@ use Rattle.edge_base.specs.layout.Bytes.{bit_in}
 use Rattle.edge_base.specs.layout.Sizes.{place_of}
 use Rattle.edge_base.specs.layout.Spelling.{master_in, metaroot_in}
 use Rattle.edge_disk.specs.Image.{Image}
-use Rattle.edge_store.specs.View.{View, is_allocable}
+use Rattle.edge_store.specs.View.{View, is_allocable, is_number}
 use Rattle.edge_model.specs.Tree.{Tree}
 use Rattle.edge_image.specs.Image.{Live, greater, live_among, live_of, is_used, spells_imap, imap_block_of, has_bad_imap, free_blocks_of, free_inodes_of}
 use Rattle.edge_image.specs.Ready.{IsMountable}
-use Rattle.edge_image.specs.View.{inode_at, inode_by, is_number, inode_of, block_told, block_of, view_of}
+use Rattle.edge_image.specs.View.{inode_at, inode_by, inode_under, block_told, block_under, used_in, view_of}
 use Rattle.edge_image.specs.Opens.{OpensTo, StandsFor, IsAlike}
 use Rattle.edge_image.proofs.GeometryLaws.{usable}
 use Rattle.edge_image.proofs.ReasonLaws.{without_a_reason, mountable}
@@ -81,27 +81,29 @@ module _ (g : Request) (image other : Image) (alike : IsAlike image other) (fits
   same_block : (b : ℕ) → b < g.blocks → other.block b ≡ image.block b
   same_block b below = alike.same b (omega arith)
 
-  inode_by_alike : (n : ℕ) (first second : Bool) → is_number g n ≡ true → inode_by g other n first second ≡ inode_by g image n first second
+  inode_by_alike : (n : ℕ) (first second : Bool) → is_number g n ≡ true → inode_by g other.block n first second ≡ inode_by g image.block n first second
   inode_by_alike n first second is =
-      let at_first = ap (inode_at g) (same_block (inode_place_of g n false) (place_inside g n false room is)) in
-      let at_second = ap (inode_at g) (same_block (inode_place_of g n true) (place_inside g n true room is)) in
-      elim first as (λ t. inode_by g other n t second ≡ inode_by g image n t second) [
-        | true ↦ elim second as (λ t. inode_by g other n true t ≡ inode_by g image n true t) [ true ↦ cc | false ↦ cc ]
-        | false ↦ elim second as (λ t. inode_by g other n false t ≡ inode_by g image n false t) [ true ↦ cc | false ↦ cc ]
+      let at_first = ap (inode_at g (inode_place_of g n false)) (same_block (inode_place_of g n false) (place_inside g n false room is)) in
+      let at_second = ap (inode_at g (inode_place_of g n true)) (same_block (inode_place_of g n true) (place_inside g n true room is)) in
+      elim first as (λ t. inode_by g other.block n t second ≡ inode_by g image.block n t second) [
+        | true ↦ elim second as (λ t. inode_by g other.block n true t ≡ inode_by g image.block n true t) [ true ↦ cc | false ↦ cc ]
+        | false ↦ elim second as (λ t. inode_by g other.block n false t ≡ inode_by g image.block n false t) [ true ↦ cc | false ↦ cc ]
       ]
 
-  inode_alike : (root : List ℕ) (n : ℕ) → inode_of g other root n ≡ inode_of g image root n
-  inode_alike root n = cond_alike (is_number g n) _ _ (inode_by_alike n (is_used g root (inode_place_of g n false)) (is_used g root (inode_place_of g n true)))
+  inode_alike : (used : ℕ → Bool) (n : ℕ) → inode_under g used other.block n ≡ inode_under g used image.block n
+  inode_alike used n = cond_alike (is_number g n) _ _ (inode_by_alike n (used (inode_place_of g n false)) (used (inode_place_of g n true)))
 
-  block_alike : (root : List ℕ) (b : ℕ) → block_of g other root b ≡ block_of g image root b
-  block_alike root b = cond_alike _ _ _ (λ is. ap (λ x. Some (block_told g x)) (same_block b (block_inside g b room (and_parts (is_allocable g b) _ is).0)))
+  block_alike : (used : ℕ → Bool) (b : ℕ) → block_under g used other.block b ≡ block_under g used image.block b
+  block_alike used b = cond_alike _ _ _ (λ is. ap (λ x. Some (block_told g x)) (same_block b (block_inside g b room (and_parts (is_allocable g b) _ is).0)))
 
   view_alike : (live : Live) → other.block live.place ≡ image.block live.place → view_of g other live ≡ view_of g image live
   unfolding view_of
-  view_alike live root = λ t. record {
-    inodes = λ n. (ap (λ r. inode_of g other r n) root ∙ inode_alike (image.block live.place) n) t;
-    blocks = λ b. (ap (λ r. block_of g other r b) root ∙ block_alike (image.block live.place) b) t;
-  }
+  view_alike live root =
+      let bits : used_in g other live ≡ used_in g image live = ap (is_used g) root in
+      λ t. record {
+        inodes = λ n. (ap (λ (used : ℕ → Bool). inode_under g used other.block n) bits ∙ inode_alike (used_in g image live) n) t;
+        blocks = λ b. (ap (λ (used : ℕ → Bool). block_under g used other.block b) bits ∙ block_alike (used_in g image live) b) t;
+      }
 
 -- ---- what an image is mounted with
 
@@ -151,7 +153,7 @@ opens_alike image other t alike opens =
       is_master = then.is_master;
       live = opens.live;
       is_live = then.is_live;
-      unbroken = λ n e. opens.unbroken n (ap (λ (v : View). v.inodes n) (sym view) ∙ e);
+      unbroken = λ n damage e. opens.unbroken n damage (ap (λ (v : View). v.inodes n) (sym view) ∙ e);
       tree = opens.tree;
       stands = subst (λ (v : View). StandsFor g v t) (sym view) opens.stands;
     }

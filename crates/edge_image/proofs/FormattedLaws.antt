@@ -8,6 +8,7 @@ use Rattle.std.proofs.lemmas.List.{get_or-drop}
 use Rattle.std.proofs.lemmas.List.Sums.{sum_by-cons}
 use Rattle.edge_base.specs.declared.geometry.BadGeometry.{BadGeometry}
 use Rattle.edge_base.specs.declared.geometry.BadGeometry.TheVariants.{BlockSize, Blocks, Inodes, NameMax, Pointers, Room, External}
+use Rattle.edge_base.specs.declared.damage.Damage.{Damage}
 use Rattle.edge_base.specs.declared.geometry.Request.{Request}
 use Rattle.edge_base.specs.declared.node.Metaroot.{Metaroot}
 use Rattle.edge_base.specs.declared.node.NodeFault.{NodeFault}
@@ -17,10 +18,10 @@ use Rattle.edge_base.specs.layout.Places.{bad_geometry, entries_of, is_inline_of
 use Rattle.edge_base.specs.layout.Bytes.{signature_in, bit_in}
 use Rattle.edge_base.specs.layout.Spelling.{metaroot_signature, metaroot_in, inode_in}
 use Rattle.edge_disk.specs.Image.{Image}
-use Rattle.edge_store.specs.View.{View, whole, broken, is_allocable}
+use Rattle.edge_store.specs.View.{View, whole, broken, is_allocable, is_number}
 use Rattle.edge_model.specs.Tree.{only_root}
 use Rattle.edge_image.specs.Image.{Live, live_among, live_of, is_used, is_unused, is_free, free_blocks_of, free_inodes_of, has_bad_imap, spells_imap, imap_block_of}
-use Rattle.edge_image.specs.View.{inode_told, inode_by, is_number, view_of}
+use Rattle.edge_image.specs.View.{inode_told, inode_by, view_of}
 use Rattle.edge_image.specs.Opens.{OpensTo}
 use Rattle.edge_image.specs.Formatted.{master_of, first_metaroot, empty_root, root_place, HasFirstMetaroot, HasEmptyRoot, IsFormatted, OpensFresh}
 use Rattle.edge_image.proofs.GeometryLaws.{master_geometry, usable}
@@ -162,7 +163,7 @@ module _ (g : Request) (image : Image) (some : 1 ≤ g.inodes) (has : HasFirstMe
       let past : 3 ≤ n = omega arith in
       let first = not_used g (image.block 1) some has (inode_place_of g n false) (omega arith) in
       let second = not_used g (image.block 1) some has (inode_place_of g n true) (omega arith) in
-      λ i. inode_by g image n (first i) (second i))
+      λ i. inode_by g image.block n (first i) (second i))
 
   no_block : (b : ℕ) → (view_of g image (first_live g)).blocks b ≡ None
   unfolding view_of
@@ -177,10 +178,10 @@ module _ (g : Request) (image : Image) (some : 1 ≤ g.inodes) (has : HasFirstMe
       let inside : is_number g 2 ≡ true = and_from (nat_le 2 2) (nat_lt 2 (2 + g.inodes)) refl (lt-ltb 2 (2 + g.inodes) (omega arith)) in
       let first = root_used g (image.block 1) some has in
       let second = not_used g (image.block 1) some has (inode_place_of g 2 true) (omega arith) in
-      let here : inode_told g (image.block (root_place g)) (inode_in (image.block (root_place g))) ≡ whole empty_root (replicate (entries_of g) 0)
-      = ap (inode_told g (image.block (root_place g))) root.spells ∙ ap (whole empty_root) root.entries in
-      ap (λ b. cond b (inode_by g image 2 (is_used g (image.block 1) (inode_place_of g 2 false)) (is_used g (image.block 1) (inode_place_of g 2 true))) None) inside
-      ∙ (λ i. inode_by g image 2 (first i) (second i)) ∙ ap Some here
+      let here : inode_told g (root_place g) (image.block (root_place g)) (inode_in (image.block (root_place g))) ≡ whole empty_root (replicate (entries_of g) 0)
+      = ap (inode_told g (root_place g) (image.block (root_place g))) root.spells ∙ ap (whole empty_root) root.entries in
+      ap (λ b. cond b (inode_by g image.block 2 (is_used g (image.block 1) (inode_place_of g 2 false)) (is_used g (image.block 1) (inode_place_of g 2 true))) None) inside
+      ∙ (λ i. inode_by g image.block 2 (first i) (second i)) ∙ ap Some here
 
   empty_view : HasEmptyRoot g (image.block (root_place g)) → IsEmptyView (view_of g image (first_live g))
   empty_view root = record {
@@ -191,10 +192,10 @@ module _ (g : Request) (image : Image) (some : 1 ≤ g.inodes) (has : HasFirstMe
     no_block = no_block;
   }
 
-never_broken : (v : View) → IsEmptyView v → (n : ℕ) → v.inodes n ≢ Some broken
-never_broken v empty n e = elim (cases_eq n 2) [
-  | inl two ↦ let wrong : Some (whole empty_root empty.entries) ≡ Some broken = sym empty.root ∙ ap v.inodes (sym two) ∙ e in cc
-  | inr apart ↦ let wrong : None ≡ Some broken = sym (empty.no_other n apart) ∙ e in cc
+never_broken : (v : View) → IsEmptyView v → (n : ℕ) (d : Damage) → v.inodes n ≢ Some (broken d)
+never_broken v empty n d e = elim (cases_eq n 2) [
+  | inl two ↦ let wrong : Some (whole empty_root empty.entries) ≡ Some (broken d) = sym empty.root ∙ ap v.inodes (sym two) ∙ e in cc
+  | inr apart ↦ let wrong : None ≡ Some (broken d) = sym (empty.no_other n apart) ∙ e in cc
 ]
 
 -- ---- the image

@@ -8,17 +8,17 @@ use Rattle.edge_base.specs.tree.Nodes.{Node}
 use Rattle.edge_base.specs.layout.Places.{inode_place_of}
 use Rattle.edge_base.specs.layout.Spelling.{inode_in}
 use Rattle.edge_disk.specs.Image.{Image}
-use Rattle.edge_store.specs.View.{whole, broken}
+use Rattle.edge_store.specs.View.{whole, broken, is_number}
 use Rattle.edge_model.specs.Tree.{Tree}
 use Rattle.edge_image.specs.Image.{Live, is_used, used_place}
 use Rattle.edge_image.specs.Ready.{IsReady}
-use Rattle.edge_image.specs.View.{inode_told, inode_at, inode_by, is_number, view_of}
+use Rattle.edge_image.specs.View.{inode_told, inode_at, inode_by, view_of}
 use Rattle.edge_image.specs.Opens.{OpensTo, head_of_node, HasHead}
 
 -- where a whole inode is told, its head is
-told_head : (g : Request) (bytes : List ℕ) (head : Head) (entries : List ℕ) (found : Result Head NodeFault) → inode_told g bytes found ≡ whole head entries → found ≡ Ok head
-told_head g bytes head entries (Ok other) e = cc
-told_head g bytes head entries (Err fault) e = absurd cc
+told_head : (g : Request) (place : ℕ) (bytes : List ℕ) (head : Head) (entries : List ℕ) (found : Result Head NodeFault) → inode_told g place bytes found ≡ whole head entries → found ≡ Ok head
+told_head g place bytes head entries (Ok other) e = cc
+told_head g place bytes head entries (Err fault) e = absurd cc
 
 -- a number's inode stands at its one used place
 pub record HasPlace (g : Request) (image : Image) (root : List ℕ) (n : ℕ) (head : Head) : Type 0 where
@@ -27,18 +27,18 @@ pub record HasPlace (g : Request) (image : Image) (root : List ℕ) (n : ℕ) (h
   pub spells : inode_in (image.block place) ≡ Ok head
 
 placed_by : (g : Request) (image : Image) (root : List ℕ) (n : ℕ) (head : Head) (entries : List ℕ) (first second : Bool) → is_used g root (inode_place_of g n false) ≡ first → is_used g root (inode_place_of g n true) ≡ second
-    → inode_by g image n first second ≡ Some (whole head entries) → HasPlace g image root n head
-placed_by g image root n head entries true true f s e = absurd (let wrong : Some broken ≡ Some (whole head entries) = e in cc)
+    → inode_by g image.block n first second ≡ Some (whole head entries) → HasPlace g image root n head
+placed_by g image root n head entries true true f s e = absurd (let wrong : Some (broken _) ≡ Some (whole head entries) = e in cc)
 placed_by g image root n head entries true false f s e =
-    let here : inode_at g (image.block (inode_place_of g n false)) ≡ whole head entries = cc in
-    record { place = inode_place_of g n false; one_place = cc; spells = told_head g (image.block (inode_place_of g n false)) head entries _ here }
+    let here : inode_at g (inode_place_of g n false) (image.block (inode_place_of g n false)) ≡ whole head entries = cc in
+    record { place = inode_place_of g n false; one_place = cc; spells = told_head g (inode_place_of g n false) (image.block (inode_place_of g n false)) head entries _ here }
 placed_by g image root n head entries false true f s e =
-    let here : inode_at g (image.block (inode_place_of g n true)) ≡ whole head entries = cc in
-    record { place = inode_place_of g n true; one_place = cc; spells = told_head g (image.block (inode_place_of g n true)) head entries _ here }
+    let here : inode_at g (inode_place_of g n true) (image.block (inode_place_of g n true)) ≡ whole head entries = cc in
+    record { place = inode_place_of g n true; one_place = cc; spells = told_head g (inode_place_of g n true) (image.block (inode_place_of g n true)) head entries _ here }
 placed_by g image root n head entries false false f s e = absurd (let wrong : None ≡ Some (whole head entries) = e in cc)
 
 placed_if : (g : Request) (image : Image) (root : List ℕ) (n : ℕ) (head : Head) (entries : List ℕ) (inside : Bool)
-    → cond inside (inode_by g image n (is_used g root (inode_place_of g n false)) (is_used g root (inode_place_of g n true))) None ≡ Some (whole head entries) → HasPlace g image root n head
+    → cond inside (inode_by g image.block n (is_used g root (inode_place_of g n false)) (is_used g root (inode_place_of g n true))) None ≡ Some (whole head entries) → HasPlace g image root n head
 placed_if g image root n head entries true e = placed_by g image root n head entries _ _ refl refl e
 placed_if g image root n head entries false e = absurd (let wrong : None ≡ Some (whole head entries) = e in cc)
 

@@ -7,14 +7,13 @@ use Rattle.edge_base.specs.declared.node.Master.{Master}
 use Rattle.edge_base.specs.declared.node.Metaroot.{Metaroot}
 use Rattle.edge_base.specs.declared.node.NodeFault.{NodeFault}
 use Rattle.edge_base.specs.declared.damage.Damage.{Damage}
-use Rattle.edge_base.specs.declared.damage.DamageKind.{DamageKind}
 use Rattle.edge_base.specs.declared.damage.DamageKind.TheVariants as kinds
-use Rattle.edge_base.specs.declared.node.NodeFault.TheVariants as faults
 use Rattle.edge_base.specs.layout.Places.{imap_nodes_of, imap_place_of, table_start_of, inode_place_of, first_allocable_of, allocable_of}
 use Rattle.edge_base.specs.layout.Bytes.{number_at, signature_in, bit_in, clear_from}
 use Rattle.edge_base.specs.layout.Word.{check_word_of}
 use Rattle.edge_base.specs.layout.Spelling.{imap_signature, bits_of_node, master_in, metaroot_in, inode_in}
 use Rattle.edge_disk.specs.Image.{Image}
+use Rattle.edge_store.specs.View.{kind_of_fault}
 
 -- ---- the live metaroot
 
@@ -117,16 +116,10 @@ reason_of image = if nat_lt image.blocks 3 then Some 1 else reason_of_master ima
 abbrev pub root_number : ℕ
 root_number = 2
 
--- the kind of damage that a fault of an inode is
-abbrev pub kind_of : NodeFault → DamageKind
-kind_of faults.WrongSignature = kinds.WrongSignature
-kind_of faults.WrongWord = kinds.WrongWord
-kind_of (faults.WrongField at) = kinds.WrongField
-
 -- the head that a block spells, or the damage of that block
 abbrev pub head_told : ℕ → Result Head NodeFault → Result Head Damage
 head_told place (Ok head) = Ok head
-head_told place (Err fault) = Err (record { block = place; kind = kind_of fault })
+head_told place (Err fault) = Err (record { block = place; kind = kind_of_fault fault })
 
 -- The place of a number's inode, where exactly one of its two places is used. root is the bytes of the live metaroot.
 abbrev pub place_of : Request → List ℕ → ℕ → Result ℕ Damage

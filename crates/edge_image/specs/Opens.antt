@@ -1,5 +1,6 @@
 -- When a view stands for a tree, and when an image opens to one.
 use Rattle.std.specs.Prelude.{◌≡◌, ◌≢◌, ◌↔◌, ◌<◌, ℕ, true, List, Some, None, Ok}
+use Rattle.edge_base.specs.declared.damage.Damage.{Damage}
 use Rattle.edge_base.specs.declared.geometry.Request.{Request}
 use Rattle.edge_base.specs.declared.node.Head.{Head}
 use Rattle.edge_base.specs.declared.node.Master.{Master}
@@ -49,7 +50,7 @@ pub record OpensTo (image : Image) (t : Tree) : Type 0 where
   pub is_master : master_in (image.block 0) ≡ Ok master
   pub live : Live
   pub is_live : live_of master.geometry image ≡ Some live
-  pub unbroken : (n : ℕ) → (view_of master.geometry image live).inodes n ≢ Some broken
+  pub unbroken : (n : ℕ) (damage : Damage) → (view_of master.geometry image live).inodes n ≢ Some (broken damage)
   pub tree : IsTree master.geometry t
   pub stands : StandsFor master.geometry (view_of master.geometry image live) t
 
