@@ -1,3 +1,4 @@
 pub mod BlockLemmas
 pub mod CandidateLemmas
 pub mod PickLemmas
+pub mod StateLaws

@@ -15,18 +15,22 @@ block_bytes n image b in_range whole =
     let P : List ℕ → Type 0 = IsBlock n in
     All-get_or P (map bytes_of image) b [] (subst (λ (m : ℕ). b < m) (sym (length-map image bytes_of)) in_range) (All-map P bytes_of image whole)
 
-remembered_bytes : (n b used : ℕ) (slots : List Slot) → AllSlotsHave n slots → All (IsBlock n) (remembered b (take used slots))
+remembered_bytes : (n b used : ℕ) (slots : List Slot) → AllSlotsHave n slots
+    → All (IsBlock n) (remembered b (take used slots))
 remembered_bytes n b used slots whole =
     let is_ours = λ (s : Slot). s.block == b in
     let Whole : Slot → Type 0 = λ s. IsBlock n s.bytes.items in
-    All-map (IsBlock n) (λ (s : Slot). s.bytes.items) (filter is_ours (take used slots)) (All-filter is_ours Whole (take used slots) (All-take Whole used slots whole))
+    All-map (IsBlock n) (λ (s : Slot). s.bytes.items) (filter is_ours (take used slots))
+    (All-filter is_ours Whole (take used slots) (All-take Whole used slots whole))
 
-pub candidate_bytes : (n : ℕ) (image : List (Vec ℕ Global)) (used : ℕ) (slots : List Slot) (b : ℕ) (c : List ℕ) → b < length image → AllBlocksHave n image → AllSlotsHave n slots
+pub candidate_bytes : (n : ℕ) (image : List (Vec ℕ Global)) (used : ℕ) (slots : List Slot) (b : ℕ) (c : List ℕ) → b < length image
+    → AllBlocksHave n image → AllSlotsHave n slots
     → Contains (block_in image b ∷ remembered b (take used slots)) c → IsBlock n c
 candidate_bytes n image used slots b c in_range whole_blocks whole_slots may =
     let P : List ℕ → Type 0 = IsBlock n in
     let extra = remembered b (take used slots) in
-    All-contains P (block_in image b ∷ extra) c (All-cons P (block_in image b) extra (block_bytes n image b in_range whole_blocks) (remembered_bytes n b used slots whole_slots)) may
+    All-contains P (block_in image b ∷ extra) c (All-cons P (block_in image b) extra
+    (block_bytes n image b in_range whole_blocks) (remembered_bytes n b used slots whole_slots)) may
 
 pub shown_is_candidate : (x : List ℕ) (extra : List (List ℕ)) → Contains (x ∷ extra) x
 shown_is_candidate x extra = (0, zero-lt-suc (length extra), refl)

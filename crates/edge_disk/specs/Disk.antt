@@ -13,6 +13,17 @@ pub record Origin : Type 0 where
   -- whatever else the disk was made with, as numbers
   pub others : List ℕ
 
+-- What a disk means, as one value: the members of its trait. `specs/State.antt` gives that of a disk.
+pub record DiskState : Type 1 where
+  pub origin : Origin
+  -- what reads give
+  pub shown : ℕ → List ℕ
+  -- what a block may be found to hold after a cut of the power
+  pub may_hold : ℕ → List ℕ → Type 0
+  -- the blocks with one candidate alone
+  pub is_sure : ℕ → Type 0
+  pub faults : ℕ
+
 -- A write of bytes to block b, in what reads give before and after it.
 pub record ShownAfterWrite {T E : Type 0} (origin : Origin) (b : ℕ) (bytes : List ℕ) (result : Result T E) (old new : ℕ → List ℕ) : Type 0 where
   pub done : IsTrue origin.shows → OnOk result (new b ≡ bytes)
@@ -20,7 +31,8 @@ pub record ShownAfterWrite {T E : Type 0} (origin : Origin) (b : ℕ) (bytes : L
   pub others : (k : ℕ) → k ≢ b → new k ≡ old k
 
 -- The same in the candidates. The count of faults is the one before the write.
-pub record MayAfterWrite {T E : Type 0} (origin : Origin) (b : ℕ) (bytes : List ℕ) (result : Result T E) (faults : ℕ) (old new : ℕ → List ℕ → Type 0) : Type 0 where
+pub record MayAfterWrite {T E : Type 0} (origin : Origin) (b : ℕ) (bytes : List ℕ) (result : Result T E) (faults : ℕ)
+    (old new : ℕ → List ℕ → Type 0) : Type 0 where
   pub there : IsTrue origin.keeps → OnOk result (new b bytes)
   pub adds : (c : List ℕ) → new b c → old b c ⊎ (c ≡ bytes)
   pub failed : OnErr result ((c : List ℕ) → old b c → new b c)

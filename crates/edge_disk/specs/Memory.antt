@@ -1,5 +1,5 @@
 -- What a disk in memory means, and what its calls do beyond what those of every disk do.
-use Rattle.std.specs.Prelude.{◌≡◌, ◌≢◌, ◌<◌, ◌≤◌, ◌+◌, ◌-◌, ◌^◌, min, ℕ, List, [], ◌∷◌, ◌++◌, length, take, slice_index, slice_index_or, true, Contains, Result, OnOk, OnErr}
+use Rattle.std.specs.Prelude.{◌≡◌, ◌≢◌, ◌<◌, ◌≤◌, ◌+◌, ℕ, List, [], ◌∷◌, ◌++◌, length, take, slice_index, slice_index_or, true, Contains, Result, OnOk, OnErr}
 use Rattle.edge_disk.specs.Disk.{Origin}
 use Rattle.edge_disk.specs.Slots.{block_in, remembered}
 use Rattle.edge_disk.specs.declared.memory.MemoryDisk.{MemoryDisk}
@@ -58,12 +58,6 @@ IsListed d = Contains (fails_of d) (calls_of d)
 
 abbrev pub IsFull : MemoryDisk → Type 0
 IsFull d = used_of d ≡ room_of d
-
--- A call was counted, and so was its fault if it failed.
-pub record CountsCall {T E : Type 0} (result : Result T E) (old new : MemoryDisk) : Type 0 where
-  pub number : calls_of new ≡ min (calls_of old + 1) (2 ^ 64 - 1)
-  pub passed : OnOk result (faults_of new ≡ faults_of old)
-  pub failed : OnErr result (faults_of new ≡ min (faults_of old + 1) (2 ^ 64 - 1))
 
 -- No further candidate has come or gone.
 pub record SameExtra (old new : MemoryDisk) : Type 0 where

@@ -13,9 +13,10 @@ pub struct DeviceFault;
 
 /// A disk of blocks of one size.
 ///
-/// `shown` is what reads give and `may_hold` what a block may be found to hold after a cut of the power,
-/// its candidates; `is_sure` says that a block has one candidate alone. `origin` says whether the first
-/// and the second are told. `faults` counts the faults so far; a disk has had none exactly where it is 0.
+/// `shown` is what reads give and `may_hold` what a block may be found to hold after a cut of the
+/// power, its candidates; `is_sure` says that a block has one candidate alone. `origin` says
+/// whether the first and the second are told. `faults` counts the faults so far; a disk has had
+/// none exactly where it is 0.
 pub trait Disk {
     ghost origin: { Self → Origin };
 
@@ -43,7 +44,8 @@ pub trait Disk {
         ensures cause { HasCause (faults self.old) (faults self.new) result }
         ensures bytes { IsTrue (origin self.old).shows → OnOk result (out.new ≡ shown self.old b) }
         ensures shown { shown self.new ≡ shown self.old }
-        ensures candidates { SameBelow (may_hold self.old) (may_hold self.new) (is_sure self.old) (is_sure self.new) };
+        ensures candidates { SameBelow (may_hold self.old) (may_hold self.new) (is_sure self.old)
+            (is_sure self.new) };
 
     /// Writes block `b`. Where it fails, reads may give the old bytes or the new ones.
     fn write(&mut self, b: u32, bytes: &[u8]) -> Result<(), DeviceFault>
@@ -51,25 +53,32 @@ pub trait Disk {
         requires whole { length bytes.now ≡ (origin self.old).block_size }
         ensures origin { origin self.new ≡ origin self.old }
         ensures cause { HasCause (faults self.old) (faults self.new) result }
-        ensures shown { ShownAfterWrite (origin self.old) b bytes.now result (shown self.old) (shown self.new) }
-        ensures candidates { MayAfterWrite (origin self.old) b bytes.now result (faults self.old) (may_hold self.old) (may_hold self.new) }
-        ensures sure { SureAfterWrite b result (faults self.old) (is_sure self.old) (is_sure self.new) };
+        ensures shown { ShownAfterWrite (origin self.old) b bytes.now result (shown self.old)
+            (shown self.new) }
+        ensures candidates { MayAfterWrite (origin self.old) b bytes.now result (faults self.old)
+            (may_hold self.old) (may_hold self.new) }
+        ensures sure { SureAfterWrite b result (faults self.old) (is_sure self.old)
+            (is_sure self.new) };
 
     /// Waits until all that was written is on the medium.
     fn flush(&mut self) -> Result<(), DeviceFault>
         ensures origin { origin self.new ≡ origin self.old }
         ensures cause { HasCause (faults self.old) (faults self.new) result }
         ensures shown { shown self.new ≡ shown self.old }
-        ensures candidates { MayAfterFlush result (faults self.old) (may_hold self.old) (may_hold self.new) }
-        ensures sure { SureAfterFlush (origin self.old) result (faults self.old) (is_sure self.old) (is_sure self.new) };
+        ensures candidates { MayAfterFlush result (faults self.old) (may_hold self.old)
+            (may_hold self.new) }
+        ensures sure { SureAfterFlush (origin self.old) result (faults self.old) (is_sure self.old)
+            (is_sure self.new) };
 
     ghost few_blocks: { (d : Self) → (origin d).blocks < 2 ^ 32 };
 
     ghost known_size: { (d : Self) → IsTrue (is_block_size (origin d).block_size) };
 
-    ghost whole_blocks: { (d : Self) (b : ℕ) → IsTrue (origin d).shows → b < (origin d).blocks → length (shown d b) ≡ (origin d).block_size };
+    ghost whole_blocks: { (d : Self) (b : ℕ) → IsTrue (origin d).shows → b < (origin d).blocks
+        → length (shown d b) ≡ (origin d).block_size };
 
-    ghost whole_candidates: { (d : Self) (b : ℕ) (c : List ℕ) → b < (origin d).blocks → may_hold d b c → length c ≡ (origin d).block_size };
+    ghost whole_candidates: { (d : Self) (b : ℕ) (c : List ℕ) → b < (origin d).blocks
+        → may_hold d b c → length c ≡ (origin d).block_size };
 
     // Each number in them is a byte.
     ghost shown_bytes: { (d : Self) (b : ℕ) → IsTrue (origin d).shows →
@@ -79,7 +88,9 @@ pub trait Disk {
         may_hold d b c → All (λ byte. byte < 256) c };
 
     // The bytes that reads give are always a candidate, and the only one where there is one alone.
-    ghost shown_is_kept: { (d : Self) (b : ℕ) → IsTrue (origin d).keeps → may_hold d b (shown d b) };
+    ghost shown_is_kept: { (d : Self) (b : ℕ) → IsTrue (origin d).keeps
+        → may_hold d b (shown d b) };
 
-    ghost sure_is_shown: { (d : Self) (b : ℕ) (c : List ℕ) → is_sure d b → may_hold d b c → c ≡ shown d b };
+    ghost sure_is_shown: { (d : Self) (b : ℕ) (c : List ℕ) → is_sure d b → may_hold d b c
+        → c ≡ shown d b };
 }

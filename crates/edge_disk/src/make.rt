@@ -14,7 +14,9 @@ pub fn split(
     requires fits { count * size ≤ length image.now }
     ensures count { IfOk result (λ blocks. length blocks.items ≡ count) }
     ensures whole { IfOk result (λ blocks. AllBlocksHave size blocks.items) }
-    ensures blocks { IfOk result (λ blocks. (k : ℕ) → k < count → block_in blocks.items k ≡ slice_range image.now (k * size) (k * size + size)) }
+    ensures blocks { IfOk result
+        (λ blocks. (k : ℕ) → k < count
+        → block_in blocks.items k ≡ slice_range image.now (k * size) (k * size + size)) }
 {
     let mut blocks = Vec::new(alloc);
     for k in 0..count {

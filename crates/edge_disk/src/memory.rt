@@ -9,9 +9,10 @@ use std::alloc::{AllocError, Global};
 
 /// A disk in memory, which fails where it was told to, and where it has no room left.
 ///
-/// Its calls of `read`, `write` and `flush` are numbered from 0, and those fail whose numbers it was made
-/// with. Each write leaves one candidate more, in the room that the disk was made with, until a flush on a
-/// disk that has had no fault: a write that finds no room fails too. All memory is taken when it is made.
+/// Its calls of `read`, `write` and `flush` are numbered from 0, and those fail whose numbers it
+/// was made with. Each write leaves one candidate more, in the room that the disk was made with,
+/// until a flush on a disk that has had no fault: a write that finds no room fails too. All memory
+/// is taken when it is made.
 #[derive(Drop)]
 pub struct MemoryDisk {
     block_size: u32,
@@ -55,7 +56,7 @@ impl Disk for MemoryDisk {
     ghost use Rattle.edge_base.specs.outside.Below.{SameBelow};
     ghost use Rattle.edge_base.specs.outside.Faults.{HasCause};
     ghost use Rattle.edge_disk.specs.Disk.{ShownAfterWrite, MayAfterWrite, SureAfterWrite, MayAfterFlush, SureAfterFlush};
-    ghost use Rattle.edge_disk.specs.Memory.{origin_of, shown_of, may_hold_of, is_sure_of, faults_of, IsListed, IsFull, CountsCall, SameExtra, ExtraAfterWrite, ExtraAfterFlush};
+    ghost use Rattle.edge_disk.specs.Memory.{origin_of, shown_of, may_hold_of, is_sure_of, faults_of, calls_of, IsListed, IsFull, SameExtra, ExtraAfterWrite, ExtraAfterFlush};
     ghost use Rattle.edge_disk.specs.CandidateLaws.{block_bytes, candidate_bytes, shown_is_candidate, only_shown};
 
     ghost origin = { origin_of };
@@ -81,13 +82,15 @@ impl Disk for MemoryDisk {
         requires whole { length out.old ≡ (origin_of self.old).block_size }
         ensures origin { origin_of self.new ≡ origin_of self.old }
         ensures cause { HasCause (faults_of self.old) (faults_of self.new) result }
-        ensures bytes { IsTrue (origin_of self.old).shows → OnOk result (out.new ≡ shown_of self.old b) }
+        ensures bytes { IsTrue (origin_of self.old).shows
+            → OnOk result (out.new ≡ shown_of self.old b) }
         ensures shown { shown_of self.new ≡ shown_of self.old }
-        ensures candidates { SameBelow (may_hold_of self.old) (may_hold_of self.new) (is_sure_of self.old) (is_sure_of self.new) }
+        ensures candidates { SameBelow (may_hold_of self.old) (may_hold_of self.new)
+            (is_sure_of self.old) (is_sure_of self.new) }
 
         // Beyond the trait's clauses.
         ensures fails { IsErr result ↔ IsListed self.old }
-        ensures counts { CountsCall result self.old self.new }
+        ensures calls { calls_of self.new ≡ min (calls_of self.old + 1) (2 ^ 64 - 1) }
         ensures extra { SameExtra self.old self.new }
         ensures untouched { OnErr result (out.new ≡ out.old) }
     {
@@ -104,13 +107,16 @@ impl Disk for MemoryDisk {
         requires whole { length bytes.now ≡ (origin_of self.old).block_size }
         ensures origin { origin_of self.new ≡ origin_of self.old }
         ensures cause { HasCause (faults_of self.old) (faults_of self.new) result }
-        ensures shown { ShownAfterWrite (origin_of self.old) b bytes.now result (shown_of self.old) (shown_of self.new) }
-        ensures candidates { MayAfterWrite (origin_of self.old) b bytes.now result (faults_of self.old) (may_hold_of self.old) (may_hold_of self.new) }
-        ensures sure { SureAfterWrite b result (faults_of self.old) (is_sure_of self.old) (is_sure_of self.new) }
+        ensures shown { ShownAfterWrite (origin_of self.old) b bytes.now result (shown_of self.old)
+            (shown_of self.new) }
+        ensures candidates { MayAfterWrite (origin_of self.old) b bytes.now result
+            (faults_of self.old) (may_hold_of self.old) (may_hold_of self.new) }
+        ensures sure { SureAfterWrite b result (faults_of self.old) (is_sure_of self.old)
+            (is_sure_of self.new) }
 
         // Beyond the trait's clauses.
         ensures fails { IsErr result ↔ (IsListed self.old ⊎ IsFull self.old) }
-        ensures counts { CountsCall result self.old self.new }
+        ensures calls { calls_of self.new ≡ min (calls_of self.old + 1) (2 ^ 64 - 1) }
         ensures still_shown { OnErr result (shown_of self.new ≡ shown_of self.old) }
         ensures extra { ExtraAfterWrite b bytes.now result self.old self.new }
     {
@@ -133,12 +139,14 @@ impl Disk for MemoryDisk {
         ensures origin { origin_of self.new ≡ origin_of self.old }
         ensures cause { HasCause (faults_of self.old) (faults_of self.new) result }
         ensures shown { shown_of self.new ≡ shown_of self.old }
-        ensures candidates { MayAfterFlush result (faults_of self.old) (may_hold_of self.old) (may_hold_of self.new) }
-        ensures sure { SureAfterFlush (origin_of self.old) result (faults_of self.old) (is_sure_of self.old) (is_sure_of self.new) }
+        ensures candidates { MayAfterFlush result (faults_of self.old) (may_hold_of self.old)
+            (may_hold_of self.new) }
+        ensures sure { SureAfterFlush (origin_of self.old) result (faults_of self.old)
+            (is_sure_of self.old) (is_sure_of self.new) }
 
         // Beyond the trait's clauses.
         ensures fails { IsErr result ↔ IsListed self.old }
-        ensures counts { CountsCall result self.old self.new }
+        ensures calls { calls_of self.new ≡ min (calls_of self.old + 1) (2 ^ 64 - 1) }
         ensures extra { ExtraAfterFlush result self.old self.new }
     {
         if is_to_fail(&mut self.calls, &self.fails) {
@@ -156,7 +164,8 @@ impl Disk for MemoryDisk {
 
     ghost whole_blocks = { λ d b shows in_range. (block_bytes _ _ b in_range d.whole_blocks).0 };
 
-    ghost whole_candidates = { λ d b c in_range may. (candidate_bytes _ _ _ _ b c in_range d.whole_blocks d.whole_slots may).0 };
+    ghost whole_candidates = { λ d b c in_range may.
+        (candidate_bytes _ _ _ _ b c in_range d.whole_blocks d.whole_slots may).0 };
 
     ghost shown_bytes = { λ d b shows in_range. (block_bytes _ _ b in_range d.whole_blocks).1 };
 
@@ -173,8 +182,8 @@ impl MemoryDisk {
     ghost use Rattle.edge_disk.specs.Image.{image_in, IsPermitted, IsPlain};
     ghost use Rattle.edge_disk.specs.Memory.{origin_of, shown_of, candidates_of, may_hold_of, is_sure_of, faults_of, fails_of, calls_of, room_of, used_of, picked_of};
 
-    /// A disk of the whole blocks of an image, with one candidate each. The calls whose numbers are in
-    /// `fails` will fail. Besides one candidate for each block there is room for `room` more.
+    /// A disk of the whole blocks of an image, with one candidate each. The calls whose numbers are
+    /// in `fails` will fail. Besides one candidate for each block there is room for `room` more.
     pub fn new(
         alloc: Global,
         block_size: u32,
@@ -216,7 +225,8 @@ impl MemoryDisk {
         })
     }
 
-    /// How many calls of `read`, `write` and `flush` there have been. It stays at 2^64 - 1 once it is there.
+    /// How many calls of `read`, `write` and `flush` there have been. It stays at 2^64 - 1 once it
+    /// is there.
     pub fn calls(&self) -> u64
         ensures { result ≡ calls_of self.now }
     {
@@ -231,7 +241,8 @@ impl MemoryDisk {
         1 + count_of(&self.slots[..self.used], b) as u32
     }
 
-    // Candidate `pick` of block `b`: the shown bytes are candidate 0, and then come the further ones as they joined.
+    // Candidate `pick` of block `b`: the shown bytes are candidate 0, and then come the further
+    // ones as they joined.
     fn candidate(&self, b: u32, pick: u32) -> &[u8]
         requires in_range { b < (origin_of self.now).blocks }
         ensures { result.now ≡ slice_index_or (candidates_of self.now b) pick [] }
@@ -245,21 +256,27 @@ impl MemoryDisk {
         }
     }
 
-    /// The image in which block `b` holds the candidate whose number is `pick[b]`, below `loose(b)`.
+    /// The image in which block `b` holds the candidate whose number is `pick[b]`, below
+    /// `loose(b)`.
     ///
-    /// Candidate 0 is what reads give, and then come the further ones in the order in which they joined:
-    /// the bytes that a write replaced, or those of a write that failed. The blocks stand
+    /// Candidate 0 is what reads give, and then come the further ones in the order in which they
+    /// joined: the bytes that a write replaced, or those of a write that failed. The blocks stand
     /// end to end.
     pub fn permitted(&self, alloc: Global, pick: &[u32]) -> Result<Vec<u8>, AllocError>
         requires one_each { length pick.now ≡ (origin_of self.now).blocks }
-        requires there { (b : ℕ) → b < (origin_of self.now).blocks → slice_index pick.now b < length (candidates_of self.now b) }
-        ensures length { IfOk result (λ bytes. length bytes.items ≡ (origin_of self.now).blocks * (origin_of self.now).block_size) }
-        ensures picked { IfOk result (λ bytes. (b : ℕ) → b < (origin_of self.now).blocks →
-            (image_in (origin_of self.now).block_size bytes.items).block b ≡ picked_of self.now pick.now b) }
-        ensures permitted { IfOk result (λ bytes. IsPermitted (origin_of self.now) (may_hold_of self.now) (is_sure_of self.now)
-            (image_in (origin_of self.now).block_size bytes.items)) }
-        ensures plain { IfOk result (λ bytes. IsPlain (origin_of self.now) (may_hold_of self.now)
-            (image_in (origin_of self.now).block_size bytes.items)) }
+        requires there { (b : ℕ) → b < (origin_of self.now).blocks
+            → slice_index pick.now b < length (candidates_of self.now b) }
+        ensures length { let origin = origin_of self.now in
+            IfOk result (λ bytes. length bytes.items ≡ origin.blocks * origin.block_size) }
+        ensures picked { let origin = origin_of self.now in
+            IfOk result (λ bytes. (b : ℕ) → b < origin.blocks
+            → (image_in origin.block_size bytes.items).block b ≡ picked_of self.now pick.now b) }
+        ensures permitted { let origin = origin_of self.now in
+            IfOk result (λ bytes. IsPermitted origin (may_hold_of self.now) (is_sure_of self.now)
+            (image_in origin.block_size bytes.items)) }
+        ensures plain { let origin = origin_of self.now in
+            IfOk result (λ bytes. IsPlain origin (may_hold_of self.now)
+            (image_in origin.block_size bytes.items)) }
     {
         let mut bytes = Vec::new(alloc);
         for b in 0..pick.len() {

@@ -44,7 +44,8 @@ pub fn count_of(slots: &[Slot], block: u32) -> usize
 
 /// The slot at `index` among those of these that are the block's, as they joined.
 pub fn nth_of(slots: &[Slot], block: u32, index: usize) -> Option<&Slot>
-    ensures { option_map (λ s. s.now) result ≡ slice_get (filter (λ s. s.block == block) slots.now) index }
+    ensures { option_map (λ s. s.now) result
+        ≡ slice_get (filter (λ s. s.block == block) slots.now) index }
 {
     slots.iter().filter(|slot| slot.block == block).nth(index)
 }

@@ -51,9 +51,11 @@ impl Disk for SureDisk {
         requires whole { length out.old ≡ (origin_of self.old).block_size }
         ensures origin { origin_of self.new ≡ origin_of self.old }
         ensures cause { HasCause (faults_of self.old) (faults_of self.new) result }
-        ensures bytes { IsTrue (origin_of self.old).shows → OnOk result (out.new ≡ shown_of self.old b) }
+        ensures bytes { IsTrue (origin_of self.old).shows
+            → OnOk result (out.new ≡ shown_of self.old b) }
         ensures shown { shown_of self.new ≡ shown_of self.old }
-        ensures candidates { SameBelow (may_hold_of self.old) (may_hold_of self.new) (is_sure_of self.old) (is_sure_of self.new) }
+        ensures candidates { SameBelow (may_hold_of self.old) (may_hold_of self.new)
+            (is_sure_of self.old) (is_sure_of self.new) }
 
         // Beyond the trait's clauses.
         ensures never_fails { result ≡ Ok tt }
@@ -69,9 +71,12 @@ impl Disk for SureDisk {
         requires whole { length bytes.now ≡ (origin_of self.old).block_size }
         ensures origin { origin_of self.new ≡ origin_of self.old }
         ensures cause { HasCause (faults_of self.old) (faults_of self.new) result }
-        ensures shown { ShownAfterWrite (origin_of self.old) b bytes.now result (shown_of self.old) (shown_of self.new) }
-        ensures candidates { MayAfterWrite (origin_of self.old) b bytes.now result (faults_of self.old) (may_hold_of self.old) (may_hold_of self.new) }
-        ensures sure { SureAfterWrite b result (faults_of self.old) (is_sure_of self.old) (is_sure_of self.new) }
+        ensures shown { ShownAfterWrite (origin_of self.old) b bytes.now result (shown_of self.old)
+            (shown_of self.new) }
+        ensures candidates { MayAfterWrite (origin_of self.old) b bytes.now result
+            (faults_of self.old) (may_hold_of self.old) (may_hold_of self.new) }
+        ensures sure { SureAfterWrite b result (faults_of self.old) (is_sure_of self.old)
+            (is_sure_of self.new) }
 
         // Beyond the trait's clauses.
         ensures never_fails { result ≡ Ok tt }
@@ -86,8 +91,10 @@ impl Disk for SureDisk {
         ensures origin { origin_of self.new ≡ origin_of self.old }
         ensures cause { HasCause (faults_of self.old) (faults_of self.new) result }
         ensures shown { shown_of self.new ≡ shown_of self.old }
-        ensures candidates { MayAfterFlush result (faults_of self.old) (may_hold_of self.old) (may_hold_of self.new) }
-        ensures sure { SureAfterFlush (origin_of self.old) result (faults_of self.old) (is_sure_of self.old) (is_sure_of self.new) }
+        ensures candidates { MayAfterFlush result (faults_of self.old) (may_hold_of self.old)
+            (may_hold_of self.new) }
+        ensures sure { SureAfterFlush (origin_of self.old) result (faults_of self.old)
+            (is_sure_of self.old) (is_sure_of self.new) }
 
         // Beyond the trait's clauses.
         ensures never_fails { result ≡ Ok tt }

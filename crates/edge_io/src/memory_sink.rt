@@ -18,8 +18,8 @@ impl MemorySink {
     ghost use Rattle.std.specs.Prelude.{◌≡◌, [], IfOk};
     ghost use Rattle.edge_io.specs.MemorySink.{taken_of, size_of, fails_of, calls_of, faults_of};
 
-    /// A sink that takes `size` bytes at most. The calls with the numbers in `fails`, counted from 0,
-    /// fail. Later calls take no memory.
+    /// A sink that takes `size` bytes at most. The calls with the numbers in `fails`, counted from
+    /// 0, fail. Later calls take no memory.
     pub fn new(alloc: Global, size: usize, fails: &[u64]) -> Result<MemorySink, AllocError>
         ensures taken { IfOk result (λ s. taken_of s ≡ []) }
         ensures size { IfOk result (λ s. size_of s ≡ size) }
@@ -53,17 +53,21 @@ impl Sink for MemorySink {
 
     ghost faults = { faults_of };
 
-    /// Takes as many of the bytes as there is room for. A full sink refuses a piece with a byte in it.
+    /// Takes as many of the bytes as there is room for. A full sink refuses a piece with a byte in
+    /// it.
     fn write(&mut self, bytes: &[u8]) -> Result<usize, SinkFault>
         ensures cause { HasCause (faults_of self.old) (faults_of self.new) result }
         ensures fits { IfOk result (λ n. n ≤ length bytes.now) }
         ensures some { IfOk result (λ n. 0 < length bytes.now → 0 < n) }
-        ensures taken { IfOk result (λ n. taken_of self.new ≡ taken_of self.old ++ take n bytes.now) }
+        ensures taken { IfOk result
+            (λ n. taken_of self.new ≡ taken_of self.old ++ take n bytes.now) }
         ensures failed { OnErr result (taken_of self.new ≡ taken_of self.old) }
 
-        ensures fails { IsErr result ↔ (Contains (fails_of self.old) (calls_of self.old) ⊎ ((0 < length bytes.now) × (length (taken_of self.old) ≡ size_of self.old))) }
-        ensures count { IfOk result (λ n. n ≡ min (length bytes.now) (size_of self.old - length (taken_of self.old))) }
-        ensures faults { OnErr result (faults_of self.new ≡ min (faults_of self.old + 1) (2 ^ 64 - 1)) }
+        ensures fails { IsErr result ↔
+            (Contains (fails_of self.old) (calls_of self.old)
+            ⊎ ((0 < length bytes.now) × (length (taken_of self.old) ≡ size_of self.old))) }
+        ensures count { IfOk result
+            (λ n. n ≡ min (length bytes.now) (size_of self.old - length (taken_of self.old))) }
         ensures calls { calls_of self.new ≡ min (calls_of self.old + 1) (2 ^ 64 - 1) }
         ensures list { fails_of self.new ≡ fails_of self.old }
         ensures size { size_of self.new ≡ size_of self.old }

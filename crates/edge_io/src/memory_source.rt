@@ -55,7 +55,6 @@ impl Source for MemorySource {
         ensures count { IfOk result (λ n. n ≡ min (length out.old) (length (left_of self.old))) }
         ensures rest { IfOk result (λ n. drop n out.new ≡ drop n out.old) }
         ensures untouched { OnErr result (out.new ≡ out.old) }
-        ensures faults { OnErr result (faults_of self.new ≡ min (faults_of self.old + 1) (2 ^ 64 - 1)) }
         ensures calls { calls_of self.new ≡ min (calls_of self.old + 1) (2 ^ 64 - 1) }
         ensures list { fails_of self.new ≡ fails_of self.old }
     {

@@ -18,12 +18,13 @@ pub trait Source {
 
     ghost faults: { Self → ℕ };
 
-    /// Gives the first of the bytes left, and answers how many. With room in `out`, 0 means that none
-    /// is left. Where it fails, it gives nothing and changes only the count.
+    /// Gives the first of the bytes left, and answers how many. With room in `out`, 0 means that
+    /// none is left. Where it fails, it gives nothing and changes only the count.
     fn read(&mut self, out: &mut [u8]) -> Result<usize, SourceFault>
         ensures tells { tells self.new ≡ tells self.old }
         ensures cause { HasCause (faults self.old) (faults self.new) result }
         ensures fits { IfOk result (λ n. n ≤ length out.old) }
-        ensures given { IsTrue (tells self.old) → IfOk result (λ n. Gives n out.new (left self.old) (left self.new)) }
+        ensures given { IsTrue (tells self.old)
+            → IfOk result (λ n. Gives n out.new (left self.old) (left self.new)) }
         ensures failed { OnErr result (left self.new ≡ left self.old) };
 }
