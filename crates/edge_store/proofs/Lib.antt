@@ -3,3 +3,7 @@ pub mod WayLaws
 pub mod FrameLaws
 pub mod ShapeLaws
 pub mod CountLaws
+pub mod ViewLaws
+pub mod RoomLaws
+pub mod DamageLaws
+pub mod CallLaws

@@ -3,3 +3,8 @@ pub mod Placed
 pub mod Fresh
 pub mod Frames
 pub mod Counted
+pub mod Damages
+pub mod State
+pub mod Calls
+pub mod Effects
+pub mod Told

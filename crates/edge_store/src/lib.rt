@@ -1,11 +1,20 @@
-//! What a store holds: views of inodes and blocks. `specs/` has the definitions that the layers above
-//! a store speak of; the functions of `laws` are laws over them, without effects.
+//! What a store holds and what its calls do: the trait `Store`, over views of inodes and blocks.
+//! `specs/` has the definitions that the layers above a store speak of; the functions of `laws` are
+//! laws over them, without effects.
 #![tactic(auto)]
 
+mod fault;
 mod laws;
+mod spot;
+mod store;
 
 pub use edge_base::Form;
+pub use fault::StoreFault;
 pub use laws::{
     a_kept_chain_keeps_its_block, blocks_lie_on_their_ways, changes_elsewhere_keep_pointers,
+    changes_of_free_blocks_after, changes_of_free_blocks_now, changes_of_free_inodes,
     data_and_free_blocks_are_no_nodes, free_blocks_and_positions, kept_pointers_keep_all_blocks,
+    only_allocable_blocks_are_used, spots_have_no_damage, what_is_met_is_damage,
 };
+pub use spot::{Free, Spot};
+pub use store::Store;
