@@ -54,6 +54,10 @@ pub record Meets {T : Type 0} (met : Option Damage) (old new : StoreState) (resu
   pub that : (damage : Damage) → result ≡ Err (Damaged damage) → met ≡ Some damage
   pub keeps : (damage : Damage) → result ≡ Err (Damaged damage) → KeepsWorking old new
 
+-- no damage is told
+abbrev pub NeverDamaged : {T : Type 0} → Result T StoreFault → Type 0
+NeverDamaged result = (damage : Damage) → result ≡ Err (Damaged damage) → ⊥
+
 -- A call of a layer above tells no damage but what is there, in the store as the call leaves it.
 abbrev pub TellsDamage : {T : Type 0} → StoreState → Result T StoreFault → Type 0
 TellsDamage new result = (damage : Damage) → result ≡ Err (Damaged damage) → HasDamage new damage

@@ -1,14 +1,12 @@
 -- What calls answer and do where the views are told: each word has that as its premise. s is a store as a call begins; old and new are
 -- it and the store after the call.
-use Rattle.std.specs.Prelude.{◌≡◌, ℕ, Bool, List, slice_index, slice_range, Option, Result, Err}
-use Rattle.edge_base.specs.declared.damage.Damage.{Damage}
+use Rattle.std.specs.Prelude.{◌≡◌, ℕ, Bool, List, slice_index, slice_range, Option, Result}
 use Rattle.edge_base.specs.declared.form.Form.{Form}
 use Rattle.edge_base.specs.declared.form.Form.TheVariants.{Plain}
 use Rattle.edge_base.specs.declared.node.Head.{Head}
 use Rattle.edge_store.specs.declared.fault.StoreFault.{StoreFault}
-use Rattle.edge_store.specs.declared.fault.StoreFault.TheVariants.{Damaged}
 use Rattle.edge_store.specs.declared.spot.Spot.{Spot}
-use Rattle.edge_store.specs.Calls.{Meets}
+use Rattle.edge_store.specs.Calls.{Meets, NeverDamaged}
 use Rattle.edge_store.specs.Damages.{damage_at, damage_of_inode}
 use Rattle.edge_store.specs.Effects.{IsHeadAt, HeadSet, EntrySet, InodeMade, InodeDropped, Taken, Copied, BlockDropped, PointerSet, BytesSet}
 use Rattle.edge_store.specs.Placed.{entry_at}
@@ -27,7 +25,7 @@ MeetsBlock old new spot result = Told old → Meets (damage_at old.working spot.
 
 -- a call that names neither
 abbrev pub MeetsNone : {T : Type 0} → StoreState → Result T StoreFault → Type 0
-MeetsNone s result = Told s → (damage : Damage) → result ≡ Err (Damaged damage) → ⊥
+MeetsNone s result = Told s → NeverDamaged result
 
 -- ---- answers
 
