@@ -7,5 +7,7 @@ pub mod TopLaws
 pub mod RunLaws
 pub mod SoundLaws
 pub mod TextLaws
-pub mod MakingLaws
+pub mod RunsLaws
+pub mod FormatsLaws
+pub mod PromiseLaws
 pub mod OrderLaws

@@ -11,7 +11,7 @@ use Rattle.edge_app.specs.declared.session.How.{How}
 use Rattle.edge_app.specs.declared.session.How.TheVariants.{End, Source, Sink, Limit, Device, Damaged}
 use Rattle.edge_app.specs.Script.{lines_of, onto_first_line, whole_lines, onto_whole_line, joined_lines, HoldsLines, lines_taken, line_at, asks_root, reply_with, HasReply, replies_before}
 use Rattle.edge_app.specs.Feeds.{is_line_feed, HasNoLineFeed, TakesUp}
-use Rattle.edge_app.specs.Part.{TookPart}
+use Rattle.edge_io.specs.Streams.{TookPart}
 use Rattle.edge_app.specs.Session.{TookOneMore, AnsweredLines, TookReplies, GaveNoMore, Ran}
 use Rattle.edge_app.specs.Turn.{HadRoom, IsBelow, AnswersLine, Turns, Progress}
 use Rattle.edge_app.proofs.StreamLaws.{lines_of-feed}

@@ -1,24 +1,14 @@
 -- The lines and the replies of a session.
-use Rattle.std.proofs.Common.{◌≡◌, ℕ, zero, suc, ◌+◌, ◌-◌, ◌<◌, ◌≤◌, ◌++◌, ◌&&◌, Bool, cond, eqb, List, [], ◌∷◌, length, take, drop, refl, sym, ap, ◌∙◌, subst, arith, append_assoc, Ok, Err}
+use Rattle.std.proofs.Common.{◌≡◌, ℕ, zero, suc, ◌<◌, ◌++◌, ◌&&◌, Bool, cond, eqb, List, [], ◌∷◌, length, take, refl, sym, ap, ◌∙◌, subst, arith, Ok, Err}
 use Rattle.std.specs.Str.{bytes_eq}
-use Rattle.std.proofs.lemmas.List.{take-take}
-use Rattle.std.proofs.Math.Seq.{take-add}
 use Rattle.std.specs.Prelude.{Result}
 use Rattle.edge_base.specs.declared.damage.Damage.{Damage}
 use Rattle.edge_base.specs.declared.node.Head.{Head}
 use Rattle.edge_app.specs.declared.volume.VolumeFault.TheVariants as faults
 use Rattle.edge_app.specs.Script.{asks_root, stat_line, stat_reply, bad_reply, reply_with, HasReply}
 use Rattle.edge_app.specs.Feeds.{kept_part, TakesLine}
-use Rattle.edge_app.specs.Part.{TookPart}
+use Rattle.edge_io.specs.Streams.{TookPart}
 use Rattle.edge_app.specs.Turn.{AnswersTo, AnswersLine, AnswersPart, LeavesLine, MeetsDamage}
-
--- what a sink has taken with n bytes more of a piece
-pub took-more : (at n : ℕ) (bytes before now after : List ℕ) → n ≤ length bytes - at → now ≡ before ++ take at bytes
-    → after ≡ now ++ take n (take (length bytes - at) (drop at bytes)) → after ≡ before ++ take (at + n) bytes
-took-more at n bytes before now after inside so_far more =
-    more ∙ ap (λ t. t ++ take n (take (length bytes - at) (drop at bytes))) so_far ∙ append_assoc before (take at bytes) (take n (take (length bytes - at) (drop at bytes)))
-    ∙ ap (λ r. before ++ (take at bytes ++ r)) (take-take n (length bytes - at) (drop at bytes) inside)
-    ∙ ap (λ r. before ++ r) (sym (take-add at n bytes))
 
 -- a front that is longer than a text differs from it where the whole does
 eq-front : (room : ℕ) (line text : List ℕ) → length text < room → bytes_eq (take room line) text ≡ bytes_eq line text

@@ -16,7 +16,7 @@ use Rattle.edge_app.specs.declared.report.Report.{Report}
 use Rattle.edge_app.specs.declared.session.How.{How}
 use Rattle.edge_app.specs.declared.session.How.TheVariants.{End, Source, Sink, Limit, Device, Damaged}
 use Rattle.edge_app.specs.Mount.{IsVolume}
-use Rattle.edge_app.specs.Part.{TookPart}
+use Rattle.edge_io.specs.Streams.{TookPart}
 use Rattle.edge_app.specs.Report.{EndsBy}
 use Rattle.edge_app.specs.Script.{lines_of, line_at, reply_to, reply_with, replies_before}
 use Rattle.edge_app.specs.Session.{Ran}

@@ -6,12 +6,13 @@ use Rattle.edge_base.specs.declared.geometry.Request.{Request}
 use Rattle.edge_base.specs.declared.node.Head.{Head}
 use Rattle.edge_base.specs.declared.node.Master.{Master}
 use Rattle.edge_base.specs.layout.Places.{inode_place_of}
-use Rattle.edge_disk.specs.Disk.{Origin}
 use Rattle.edge_disk.specs.Image.{Image, shown_image}
 use Rattle.edge_image.specs.Image.{Live, live_of, is_used, used_place, place_of, head_of, head_told, head_by, root_number}
 use Rattle.edge_image.specs.Ready.{IsReady}
 use Rattle.edge_app.specs.Mount.{IsVolume}
-use Rattle.edge_app.specs.Part.{TookPart}
+use Rattle.edge_disk.specs.State.{IsUntouched, shown_by}
+use Rattle.edge_disk.specs.Disk.{DiskState}
+use Rattle.edge_io.specs.Streams.{TookPart}
 use Rattle.edge_app.specs.Report.{EndsBy}
 use Rattle.edge_app.specs.declared.report.Report.{Report}
 use Rattle.edge_app.specs.Script.{lines_of, onto_first_line, whole_lines, onto_whole_line, IsInLimits, line_at, reply_to, replies_to, reply_with, replies_before}
@@ -109,8 +110,8 @@ is_whole image image_then same g root head ready volume how script left k taken 
 
 -- ---- what stands in the report
 
-pub same_image : (origin origin_then : Origin) (shown shown_then : ℕ → List ℕ) → origin_then ≡ origin → shown_then ≡ shown → shown_image origin_then shown_then ≡ shown_image origin shown
-same_image origin origin_then shown shown_then o s = ap (λ w. shown_image w shown_then) o ∙ ap (shown_image origin) s
+pub same_image : (disk then : DiskState) → IsUntouched disk then → shown_by then ≡ shown_by disk
+same_image disk then untouched = ap (λ origin. shown_image origin then.shown) untouched.origin ∙ ap (shown_image disk.origin) untouched.shown
 
 -- status 0 is an end of the script
 pub ended_by : (how : How) (r : Report) → EndsBy how r → r.status ≡ 0 → how ≡ End

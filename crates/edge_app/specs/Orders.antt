@@ -1,9 +1,9 @@
 -- What the words ask for.
-use Rattle.std.specs.Prelude.{◌≢◌, ◌⊎◌, ◌<◌, ℕ, List, None}
+use Rattle.std.specs.Prelude.{◌≡◌, ◌≢◌, ◌⊎◌, ◌<◌, ℕ, List, None}
 use Rattle.edge_base.specs.declared.geometry.Request.{Request}
 use Rattle.edge_base.specs.layout.Places.{bad_geometry}
 use Rattle.edge_words.specs.Words.{Word}
-use Rattle.edge_words.specs.Orders.{Asked, Run, Format, Spells}
+use Rattle.edge_words.specs.Orders.{Asked, Run, Format, Spells, block_size_of}
 
 -- the words spell `run`
 pub record AsksRun (words : List Word) : Type 0 where
@@ -27,3 +27,7 @@ AsksNothing words = (asked : Asked) → Spells words asked → ⊥
 -- A geometry that breaks a limit, or has more blocks than the disk.
 abbrev pub IsUnfit : Request → ℕ → Type 0
 IsUnfit g blocks = (bad_geometry g ≢ None) ⊎ (blocks < g.blocks)
+
+-- the disk has the block size that the words ask for
+abbrev pub HaveBlockSize : List Word → ℕ → Type 0
+HaveBlockSize words size = (asked : Asked) → Spells words asked → size ≡ block_size_of asked

@@ -4,7 +4,7 @@ use Rattle.edge_base.specs.declared.damage.Damage.{Damage}
 use Rattle.edge_base.specs.declared.node.Head.{Head}
 use Rattle.edge_app.specs.declared.session.How.{How}
 use Rattle.edge_app.specs.declared.session.How.TheVariants.{End, Source, Sink, Limit, Device, Damaged}
-use Rattle.edge_app.specs.Part.{TookPart}
+use Rattle.edge_io.specs.Streams.{TookPart}
 use Rattle.edge_app.specs.Feeds.{HasNoLineFeed}
 use Rattle.edge_app.specs.Script.{lines_of, HoldsLines, lines_taken, line_at, asks_root, HasReply, reply_with, replies_before}
 

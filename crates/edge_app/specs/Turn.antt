@@ -9,13 +9,13 @@ use Rattle.edge_app.specs.declared.volume.VolumeFault.{VolumeFault}
 use Rattle.edge_app.specs.declared.volume.VolumeFault.TheVariants as faults
 use Rattle.edge_app.specs.Script.{lines_of, joined_lines, line_at, asks_root, HasReply, reply_with, replies_before}
 use Rattle.edge_app.specs.Feeds.{HasNoLineFeed, TakesUp}
-use Rattle.edge_app.specs.Part.{TookPart}
+use Rattle.edge_io.specs.Streams.{TookPart}
 
 -- ---- counts of faults
 
 -- how the count of the source's faults went on
 abbrev pub SourceCount : Option How → ℕ → ℕ → Type 0
-SourceCount (Some Source) before after = (before ≤ after) × Rose before after
+SourceCount (Some Source) before after = Rose before after
 SourceCount (Some End) before after = after ≡ before
 SourceCount (Some Sink) before after = after ≡ before
 SourceCount (Some Limit) before after = after ≡ before
@@ -25,7 +25,7 @@ SourceCount None before after = after ≡ before
 
 -- that of the sink's
 abbrev pub SinkCount : Option How → ℕ → ℕ → Type 0
-SinkCount (Some Sink) before after = (before ≤ after) × Rose before after
+SinkCount (Some Sink) before after = Rose before after
 SinkCount (Some End) before after = after ≡ before
 SinkCount (Some Source) before after = after ≡ before
 SinkCount (Some Limit) before after = after ≡ before

@@ -1,20 +1,20 @@
 //! The program without its outside: the words, the script, the image, and the call `edge`.
 #![tactic(auto)]
 
+mod format_command;
 mod lines;
-mod making;
 mod mount;
+mod program;
 mod reply;
 mod report;
-mod running;
+mod run_command;
 mod session;
 #[cfg(test)]
 mod tests;
-mod top;
 mod volume;
 
+pub use program::edge;
 pub use report::{
     DAMAGED, DEVICE, DONE, GEOMETRY, LIMIT, MEMORY, NOT_A_VOLUME, Outcome, Report, SINK, SOURCE,
     WORDS, fault_line,
 };
-pub use top::edge;

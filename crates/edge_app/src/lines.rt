@@ -39,7 +39,8 @@ pub struct LineReader {
     ghost kept_in: { kept ≤ 8210 },
 }
 
-// Appends to the bytes kept as many of these as there is room for, and answers how many are kept then.
+// Appends to the bytes kept as many of these as there is room for, and answers how many are kept
+// then.
 fn append(line: &mut [u8], kept: usize, bytes: &[u8]) -> usize
     requires { kept ≤ length line.old }
     ensures in_line { result ≤ length line.new }
@@ -77,11 +78,14 @@ impl LineReader {
         ensures tells { S.tells src.new ≡ S.tells src.old }
         ensures cause { HasCause (S.faults src.old) (S.faults src.new) result }
         ensures more { result ≡ Ok true → self.new.at < self.new.end }
-        ensures given { IsTrue (S.tells src.old) → OnOk result (S.left src.old ≡ pending self.new ++ S.left src.new) }
-        ensures end { IsTrue (S.tells src.old) → result ≡ Ok false → (pending self.new ≡ []) × (S.left src.new ≡ []) }
+        ensures given { IsTrue (S.tells src.old)
+            → OnOk result (S.left src.old ≡ pending self.new ++ S.left src.new) }
+        ensures end { IsTrue (S.tells src.old) → result ≡ Ok false
+            → (pending self.new ≡ []) × (S.left src.new ≡ []) }
         ensures ended { result ≡ Ok false → ended_of self.new ≡ true }
         ensures goes_on { (result ≡ Ok false → ⊥) → ended_of self.new ≡ ended_of self.old }
-        ensures failed { OnErr result ((S.left src.new ≡ S.left src.old) × (pending self.new ≡ [])) }
+        ensures failed { OnErr result
+            ((S.left src.new ≡ S.left src.old) × (pending self.new ≡ [])) }
         ensures kept { kept_of self.new ≡ kept_of self.old }
         ensures used { used_of self.new ≡ used_of self.old }
     {
@@ -96,15 +100,18 @@ impl LineReader {
         Ok(true)
     }
 
-    /// Whether the source gives a further byte, which stays to be taken up. Once the source has ended it
-    /// is not asked again.
+    /// Whether the source gives a further byte, which stays to be taken up. Once the source has
+    /// ended it is not asked again.
     pub fn has_more<S: Source>(&mut self, src: &mut S) -> Result<bool, SourceFault>
         requires { SeesEnd (S.tells src.old) (ended_of self.old) (S.left src.old) }
         ensures tells { S.tells src.new ≡ S.tells src.old }
         ensures cause { HasCause (S.faults src.old) (S.faults src.new) result }
         ensures more { result ≡ Ok true → self.new.at < self.new.end }
-        ensures same { IsTrue (S.tells src.old) → OnOk result (stream_of self.new (S.left src.new) ≡ stream_of self.old (S.left src.old)) }
-        ensures end { IsTrue (S.tells src.old) → result ≡ Ok false → (stream_of self.new (S.left src.new) ≡ []) × (S.left src.new ≡ []) }
+        ensures same { IsTrue (S.tells src.old)
+            → OnOk result (stream_of self.new (S.left src.new)
+            ≡ stream_of self.old (S.left src.old)) }
+        ensures end { IsTrue (S.tells src.old) → result ≡ Ok false
+            → (stream_of self.new (S.left src.new) ≡ []) × (S.left src.new ≡ []) }
         ensures ended { result ≡ Ok false → ended_of self.new ≡ true }
         ensures seen { SeesEnd (S.tells src.new) (ended_of self.new) (S.left src.new) }
         ensures failed { OnErr result (stream_of self.old (S.left src.old) ≡ S.left src.new) }
@@ -125,7 +132,8 @@ impl LineReader {
     // Keeps of the line that has begun the first bytes that are pending, as far as there is room.
     fn keep(&mut self, len: usize)
         requires { len ≤ self.old.end - self.old.at }
-        ensures kept { kept_of self.new ≡ kept_part (kept_of self.old ++ take len (pending self.old)) }
+        ensures kept { kept_of self.new
+            ≡ kept_part (kept_of self.old ++ take len (pending self.old)) }
         ensures pending { pending self.new ≡ pending self.old }
         ensures place { self.new.at ≡ self.old.at }
         ensures end { self.new.end ≡ self.old.end }
@@ -136,13 +144,14 @@ impl LineReader {
         self.kept = append(&mut self.line, self.kept, piece);
     }
 
-    // Takes up what is pending of the line that has begun, at most so many bytes, and answers whether
-    // the line has ended.
+    // Takes up what is pending of the line that has begun, at most so many bytes, and answers
+    // whether the line has ended.
     fn take_up(&mut self, most: u64) -> bool
         requires some { self.old.at < self.old.end }
         requires room { 0 < most }
         requires fits { used_of self.old + most < 2 ^ 64 }
-        ensures taken { GoesOn result (pending self.old) (pending self.new) (kept_of self.old) (kept_of self.new) (used_of self.old) (used_of self.new) }
+        ensures taken { GoesOn result (pending self.old) (pending self.new) (kept_of self.old)
+            (kept_of self.new) (used_of self.old) (used_of self.new) }
         ensures ended { ended_of self.new ≡ ended_of self.old }
         ensures more { used_of self.old < used_of self.new }
         ensures most { used_of self.new ≤ used_of self.old + most }
@@ -174,7 +183,8 @@ impl LineReader {
         self.used += n as u64;
     }
 
-    /// Takes up the next line. It ends where `limit` bytes were taken up and the source gives a further one.
+    /// Takes up the next line. It ends where `limit` bytes were taken up and the source gives a
+    /// further one.
     pub fn next<S: Source>(&mut self, src: &mut S, limit: u64) -> Result<Next, SourceFault>
         requires limit { used_of self.old ≤ limit }
         requires seen { SeesEnd (S.tells src.old) (ended_of self.old) (S.left src.old) }
@@ -183,14 +193,19 @@ impl LineReader {
         ensures used { used_of self.new ≤ limit }
         ensures seen { SeesEnd (S.tells src.new) (ended_of self.new) (S.left src.new) }
         ensures line { IsTrue (S.tells src.old) → result ≡ Ok Next.Line
-            → TakesLine (stream_of self.old (S.left src.old)) (stream_of self.new (S.left src.new)) (kept_of self.new) (ended_of self.new) (used_of self.old) (used_of self.new) }
+            → TakesLine (stream_of self.old (S.left src.old)) (stream_of self.new (S.left src.new))
+            (kept_of self.new) (ended_of self.new) (used_of self.old) (used_of self.new) }
         ensures end { IsTrue (S.tells src.old) → result ≡ Ok Next.End
-            → (stream_of self.old (S.left src.old) ≡ []) × (stream_of self.new (S.left src.new) ≡ []) × (S.left src.new ≡ []) × (used_of self.new ≡ used_of self.old) }
-        ensures limit { result ≡ Ok Next.Limit → (used_of self.new ≡ limit) × (self.new.at < self.new.end) }
+            → (stream_of self.old (S.left src.old) ≡ []) × (stream_of self.new (S.left src.new) ≡ [])
+            × (S.left src.new ≡ []) × (used_of self.new ≡ used_of self.old) }
+        ensures limit { result ≡ Ok Next.Limit
+            → (used_of self.new ≡ limit) × (self.new.at < self.new.end) }
         ensures begun { IsTrue (S.tells src.old) → result ≡ Ok Next.Limit
-            → HasBegun (stream_of self.old (S.left src.old)) (stream_of self.new (S.left src.new)) (kept_of self.new) (used_of self.old) (used_of self.new) }
+            → HasBegun (stream_of self.old (S.left src.old)) (stream_of self.new (S.left src.new))
+            (kept_of self.new) (used_of self.old) (used_of self.new) }
         ensures failed { IsTrue (S.tells src.old) → OnErr result
-            (HasBegun (stream_of self.old (S.left src.old)) (S.left src.new) (kept_of self.new) (used_of self.old) (used_of self.new)) }
+            (HasBegun (stream_of self.old (S.left src.old)) (S.left src.new) (kept_of self.new)
+            (used_of self.old) (used_of self.new)) }
         ensures not_ended { OnErr result (ended_of self.old ≡ false) }
     {
         self.kept = 0;

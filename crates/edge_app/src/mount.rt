@@ -1,12 +1,10 @@
-ghost use Rattle.std.specs.Prelude.{◌≡◌, ◌+◌, ◌<◌, ◌≤◌, ◌^◌, ℕ, length, IsTrue, IfOk};
-ghost use Rattle.edge_base.specs.outside.Below.{SameBelow};
+ghost use Rattle.std.specs.Prelude.{◌≡◌, ◌+◌, ◌<◌, ◌≤◌, ◌^◌, ℕ, length, IsTrue, IfOk, Some, None};
 ghost use Rattle.edge_base.specs.outside.Faults.{HasCause};
 ghost use Rattle.edge_base.specs.layout.Places.{table_start_of};
 ghost use Rattle.edge_base.specs.layout.Spelling.{metaroot_in};
-ghost use Rattle.edge_disk.specs.Image.{shown_image};
 ghost use Rattle.edge_image.specs.Image.{live_among, is_used, is_free, free_blocks_of, free_inodes_of};
-ghost use Rattle.std.specs.Prelude.{Some, None};
-ghost use Rattle.edge_app.specs.Mount.{IsUntouched, Mounts, MountsWhole, Judges, reason_inline};
+ghost use Rattle.edge_disk.specs.State.{disk_of, shown_by, IsUntouched};
+ghost use Rattle.edge_app.specs.Mount.{Mounts, MountsWhole, Judges, reason_inline};
 ghost use Rattle.edge_app.specs.Live.{FindsLive};
 
 use edge_base::{Geometry, Metaroot};
@@ -90,7 +88,8 @@ fn reason_of_root(g: &Geometry, live: &Metaroot, root: &[u8]) -> Option<u8>
 fn find_live(g: &Geometry, one: &mut [u8], two: &[u8]) -> Option<Metaroot>
     requires one { length one.old ≡ g.now.block_size }
     requires two { length two.now ≡ g.now.block_size }
-    ensures { FindsLive (live_among (metaroot_in g.now one.old) (metaroot_in g.now two.now)) one.old two.now result one.new }
+    ensures { FindsLive (live_among (metaroot_in g.now one.old) (metaroot_in g.now two.now)) one.old
+        two.now result one.new }
 {
     match (decode_metaroot(g, one), decode_metaroot(g, two)) {
         (Ok(first), Ok(second)) => {
@@ -109,8 +108,9 @@ fn find_live(g: &Geometry, one: &mut [u8], two: &[u8]) -> Option<Metaroot>
     }
 }
 
-/// Reads the master and the metaroots, and tells the first reason why the image is not mounted, if there
-/// is one. If there is none, the live metaroot is left in `root`. Both slices have a block's size.
+/// Reads the master and the metaroots, and tells the first reason why the image is not mounted, if
+/// there is one. If there is none, the live metaroot is left in `root`. Both slices have a block's
+/// size.
 pub fn mount<D: Disk>(
     disk: &mut D,
     root: &mut [u8],
@@ -119,8 +119,9 @@ pub fn mount<D: Disk>(
     requires root { length root.old ≡ (D.origin disk.old).block_size }
     requires spare { length spare.old ≡ (D.origin disk.old).block_size }
     ensures cause { HasCause (D.faults disk.old) (D.faults disk.new) result }
-    ensures untouched { IsUntouched (D.origin disk.old) (D.origin disk.new) (D.shown disk.old) (D.shown disk.new) (D.may_hold disk.old) (D.may_hold disk.new) (D.is_sure disk.old) (D.is_sure disk.new) }
-    ensures told { IsTrue (D.origin disk.old).shows → IfOk result (Mounts (shown_image (D.origin disk.old) (D.shown disk.old)) root.new) }
+    ensures untouched { IsUntouched (disk_of D.Disk disk.old) (disk_of D.Disk disk.new) }
+    ensures told { IsTrue (D.origin disk.old).shows
+        → IfOk result (Mounts (shown_by (disk_of D.Disk disk.old)) root.new) }
     ensures whole { IfOk result (MountsWhole (D.origin disk.old)) }
 {
     if disk.blocks() < 3 {
@@ -146,7 +147,8 @@ pub fn mount<D: Disk>(
 fn judge(g: &Geometry, one: &mut [u8], two: &[u8]) -> Mounted
     requires one { length one.old ≡ g.now.block_size }
     requires two { length two.now ≡ g.now.block_size }
-    ensures { Judges g.now (live_among (metaroot_in g.now one.old) (metaroot_in g.now two.now)) one.old two.now result one.new }
+    ensures { Judges g.now (live_among (metaroot_in g.now one.old) (metaroot_in g.now two.now))
+        one.old two.now result one.new }
 {
     let Some(live) = find_live(g, one, two) else {
         return Mounted::NotVolume(4);

@@ -18,7 +18,8 @@ pub fn answer<R: ReadRoot>(root: &mut R, line: &[u8]) -> Result<Reply, VolumeFau
     ensures root { R.root root.new ≡ R.root root.old }
     ensures same { R.same root.old root.new }
     ensures cause { VolumeCount result (R.faults root.old) (R.faults root.new) }
-    ensures told { IsTrue (R.shows root.old) → AnswersTo (R.root root.old) line.now (bytes_of result) }
+    ensures told { IsTrue (R.shows root.old)
+        → AnswersTo (R.root root.old) line.now (bytes_of result) }
 {
     if line == b"stat /".as_slice() {
         let head = root.root_head()?;

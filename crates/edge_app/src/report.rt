@@ -54,7 +54,8 @@ pub const LIMIT: u8 = 11;
 impl Report {
     /// The report of a run that answered no line.
     pub const fn unserved(status: u8) -> Report
-        ensures { result ≡ record { status = status; reason = 0; commands = 0; taken = 0; points = 0; damage = None } }
+        ensures { result ≡ record
+            { status = status; reason = 0; commands = 0; taken = 0; points = 0; damage = None } }
     {
         Report {
             status,
@@ -68,7 +69,8 @@ impl Report {
 
     /// The report of a run over an image that is no volume.
     pub(crate) fn not_a_volume(reason: u8) -> Report
-        ensures { result ≡ record { status = 8; reason = reason; commands = 0; taken = 0; points = 0; damage = None } }
+        ensures { result ≡ record
+            { status = 8; reason = reason; commands = 0; taken = 0; points = 0; damage = None } }
     {
         Report {
             reason,
@@ -138,9 +140,9 @@ fn fault_text(r: &Report) -> ArrayString<64>
     text
 }
 
-/// Writes the fault line of a report to the front of `out`, which has at least 64 bytes, and answers its
-/// length: `edge: status S`, then ` block B kind K` where damage was met, or ` reason R` where the image is
-/// no volume, and a line feed. At status 0 there is none.
+/// Writes the fault line of a report to the front of `out`, which has at least 64 bytes, and
+/// answers its length: `edge: status S`, then ` block B kind K` where damage was met, or ` reason
+/// R` where the image is no volume, and a line feed. At status 0 there is none.
 pub fn fault_line(r: &Report, out: &mut [u8]) -> usize
     requires { 64 ≤ length out.old }
     ensures length { result ≡ length (fault_line_of r.now) }

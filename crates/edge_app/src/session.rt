@@ -1,7 +1,5 @@
-ghost use Rattle.std.specs.Prelude.{◌≡◌, ◌⊎◌, ◌≤◌, ◌++◌, [], IsTrue, OnOk, OnErr, Some, None, Err, true, false};
-ghost use Rattle.edge_base.specs.outside.Faults.{HasCause};
+ghost use Rattle.std.specs.Prelude.{◌≡◌, ◌⊎◌, ◌≤◌, [], IsTrue, Some, None, Err, true, false};
 ghost use Rattle.edge_app.specs.Feeds.{SeesEnd};
-ghost use Rattle.edge_app.specs.Part.{TookPart};
 ghost use Rattle.edge_base.specs.declared.damage.Damage.{Damage};
 ghost use Rattle.edge_app.specs.Script.{HoldsLines};
 ghost use Rattle.edge_app.specs.Session.{Ran};
@@ -12,7 +10,7 @@ use crate::lines::{LineReader, Next};
 use crate::reply::answer;
 use crate::volume::{ReadRoot, VolumeFault};
 use edge_base::Damage;
-use edge_io::{Sink, SinkFault, Source};
+use edge_io::{Sink, Source, write_all};
 
 /// How many lines a session answers at most, and how many bytes of a script it takes up.
 #[derive(Clone, Copy, Debug)]
@@ -38,27 +36,13 @@ pub enum How {
     Damaged(Damage),
 }
 
-/// How a session has ended, how many lines were answered, and how many bytes of the script are in them
-/// and in a line that was taken up and not answered.
+/// How a session has ended, how many lines were answered, and how many bytes of the script are in
+/// them and in a line that was taken up and not answered.
 #[derive(Clone, Copy, Debug)]
 pub struct Ended {
     pub how: How,
     pub commands: u32,
     pub taken: u64,
-}
-
-/// Gives all the bytes to a sink.
-pub fn write_all<K: Sink>(out: &mut K, bytes: &[u8]) -> Result<(), SinkFault>
-    ensures tells { K.tells out.new ≡ K.tells out.old }
-    ensures cause { HasCause (K.faults out.old) (K.faults out.new) result }
-    ensures done { IsTrue (K.tells out.old) → OnOk result (K.taken out.new ≡ K.taken out.old ++ bytes.now) }
-    ensures cut { IsTrue (K.tells out.old) → OnErr result (TookPart bytes.now (K.taken out.old) (K.taken out.new)) }
-{
-    let mut at = 0;
-    while at < bytes.len() {
-        at += out.write(&bytes[at..])?;
-    }
-    Ok(())
 }
 
 // Answers one line, where there is room for a further one, and tells why none was answered.
@@ -89,10 +73,13 @@ fn turn<S: Source, K: Sink, R: ReadRoot>(
     ensures limit { result ≡ Some How.Limit → (has_room ≡ false) ⊎ (used_of lines.new ≡ bytes) }
     ensures no_room { has_room ≡ false → used_of lines.new ≡ used_of lines.old }
     ensures end { IsTrue (S.tells src.old) → result ≡ Some How.End → S.left src.new ≡ [] }
-    ensures damaged { IsTrue (R.shows root.old) → (damage : Damage) → result ≡ Some (How.Damaged damage) → R.root root.old ≡ Err damage }
+    ensures damaged { IsTrue (R.shows root.old) → (damage : Damage)
+        → result ≡ Some (How.Damaged damage) → R.root root.old ≡ Err damage }
     ensures turned { IsTrue (R.shows root.old) → IsTrue (S.tells src.old) → IsTrue (K.tells out.old)
-        → Turns result (R.root root.old) (stream_of lines.old (S.left src.old)) (stream_of lines.new (S.left src.new)) (S.left src.new)
-        (ended_of lines.old) (ended_of lines.new) (used_of lines.old) (used_of lines.new) (K.taken out.old) (K.taken out.new) }
+        → Turns result (R.root root.old)
+        (stream_of lines.old (S.left src.old)) (stream_of lines.new (S.left src.new))
+        (S.left src.new) (ended_of lines.old) (ended_of lines.new)
+        (used_of lines.old) (used_of lines.new) (K.taken out.old) (K.taken out.new) }
 {
     if !has_room {
         return match lines.has_more(src) {
@@ -118,7 +105,8 @@ fn turn<S: Source, K: Sink, R: ReadRoot>(
     }
 }
 
-// The bytes in the lines that were taken up: a line that the source failed to give whole is none of them.
+// The bytes in the lines that were taken up: a line that the source failed to give whole is none of
+// them.
 fn taken_at(how: How, before: u64, after: u64) -> u64
     ensures failed { how ≡ How.Source → result ≡ before }
     ensures other { (how ≡ How.Source → ⊥) → result ≡ after }
@@ -129,8 +117,8 @@ fn taken_at(how: How, before: u64, after: u64) -> u64
     }
 }
 
-/// Answers a script line by line, from its beginning. The reply to a line is given to the sink before the
-/// next line is taken up. `lines` has taken nothing up.
+/// Answers a script line by line, from its beginning. The reply to a line is given to the sink
+/// before the next line is taken up. `lines` has taken nothing up.
 pub fn serve<S: Source, K: Sink, R: ReadRoot>(
     src: &mut S,
     out: &mut K,
@@ -153,13 +141,17 @@ pub fn serve<S: Source, K: Sink, R: ReadRoot>(
     ensures few { result.commands ≤ limit.lines }
     ensures short { result.taken ≤ limit.bytes }
     ensures room { IsBelow result.how result.commands limit.lines }
-    ensures limit { result.how ≡ How.Limit → (result.commands ≡ limit.lines) ⊎ (result.taken ≡ limit.bytes) }
-    ensures limit_bytes { IsTrue (R.shows root.old) → IsTrue (S.tells src.old) → IsTrue (K.tells out.old) → result.how ≡ How.Limit
+    ensures limit { result.how ≡ How.Limit
+        → (result.commands ≡ limit.lines) ⊎ (result.taken ≡ limit.bytes) }
+    ensures limit_bytes { IsTrue (R.shows root.old) → IsTrue (S.tells src.old)
+        → IsTrue (K.tells out.old) → result.how ≡ How.Limit
         → HoldsLines (S.left src.old) result.commands result.taken ⊎ (result.taken ≡ limit.bytes) }
     ensures end { IsTrue (S.tells src.old) → result.how ≡ How.End → S.left src.new ≡ [] }
-    ensures damaged { IsTrue (R.shows root.old) → (damage : Damage) → result.how ≡ How.Damaged damage → R.root root.old ≡ Err damage }
+    ensures damaged { IsTrue (R.shows root.old) → (damage : Damage)
+        → result.how ≡ How.Damaged damage → R.root root.old ≡ Err damage }
     ensures ran { IsTrue (R.shows root.old) → IsTrue (S.tells src.old) → IsTrue (K.tells out.old)
-        → Ran result.how (R.root root.old) (S.left src.old) (S.left src.new) result.commands result.taken (K.taken out.old) (K.taken out.new) }
+        → Ran result.how (R.root root.old) (S.left src.old) (S.left src.new)
+        result.commands result.taken (K.taken out.old) (K.taken out.new) }
 {
     let mut commands = 0;
     loop {

@@ -2,12 +2,12 @@ ghost use Rattle.std.specs.Prelude.{◌≡◌, ◌+◌, ◌<◌, ◌≤◌, ℕ,
 ghost use Rattle.edge_base.specs.declared.damage.Damage.{Damage};
 ghost use Rattle.edge_base.specs.declared.node.Head.{Head};
 ghost use Rattle.edge_base.specs.layout.Spelling.{inode_in};
-ghost use Rattle.edge_base.specs.outside.Below.{SameBelow};
 ghost use Rattle.edge_base.specs.outside.Faults.{Rose};
-ghost use Rattle.edge_disk.specs.Image.{shown_image};
+ghost use Rattle.edge_disk.specs.State.{disk_of, shown_by, IsUntouched};
+ghost use Rattle.edge_disk.proofs.StateLaws.{untouched, untouched-twice};
 ghost use Rattle.edge_image.specs.Image.{place_of, head_told, head_of, root_number, reason_of};
 ghost use Rattle.edge_store.specs.View.{kind_of_fault};
-ghost use Rattle.edge_app.specs.Mount.{IsUntouched, IsVolume, untouched, untouched-twice};
+ghost use Rattle.edge_app.specs.Mount.{IsVolume};
 ghost use Rattle.edge_app.specs.Volume.{Tells, VolumeCount, MountCount, MountTold};
 
 use crate::mount::{Mounted, is_used, mount};
@@ -33,7 +33,8 @@ pub enum MountFault {
     NotVolume(u8),
 }
 
-/// What is kept of a mounted image: its geometry, the bytes of its live metaroot, and room for a block.
+/// What is kept of a mounted image: its geometry, the bytes of its live metaroot, and room for a
+/// block.
 #[derive(Drop)]
 pub struct Kept {
     pub geometry: Geometry,
@@ -63,7 +64,8 @@ fn kind_of(fault: NodeFault) -> DamageKind
 }
 
 impl<D: Disk> Volume<D> {
-    /// Mounts the image of a disk. `root` and `block` have a block's size. A fault gives the disk back.
+    /// Mounts the image of a disk. `root` and `block` have a block's size. A fault gives the disk
+    /// back.
     pub fn mount(
         mut disk: D,
         mut root: Vec<u8>,
@@ -72,12 +74,13 @@ impl<D: Disk> Volume<D> {
         requires root { vec_len root ≡ (D.origin disk).block_size }
         requires block { vec_len block ≡ (D.origin disk).block_size }
         ensures untouched { MatchResult result
-            (λ v. IsUntouched (D.origin disk) (D.origin v.disk) (D.shown disk) (D.shown v.disk) (D.may_hold disk) (D.may_hold v.disk) (D.is_sure disk) (D.is_sure v.disk))
-            (λ e. IsUntouched (D.origin disk) (D.origin e.0) (D.shown disk) (D.shown e.0) (D.may_hold disk) (D.may_hold e.0) (D.is_sure disk) (D.is_sure e.0)) }
-        ensures cause { MatchResult result (λ v. D.faults v.disk ≡ D.faults disk) (λ e. MountCount e.1 (D.faults disk) (D.faults e.0)) }
+            (λ v. IsUntouched (disk_of D.Disk disk) (disk_of D.Disk v.disk))
+            (λ e. IsUntouched (disk_of D.Disk disk) (disk_of D.Disk e.0)) }
+        ensures cause { MatchResult result (λ v. D.faults v.disk ≡ D.faults disk)
+            (λ e. MountCount e.1 (D.faults disk) (D.faults e.0)) }
         ensures told { IsTrue (D.origin disk).shows → MatchResult result
-            (λ v. IsVolume (shown_image (D.origin disk) (D.shown disk)) v.kept.geometry v.kept.root.items)
-            (λ e. MountTold e.1 (reason_of (shown_image (D.origin disk) (D.shown disk)))) }
+            (λ v. IsVolume (shown_by (disk_of D.Disk disk)) v.kept.geometry v.kept.root.items)
+            (λ e. MountTold e.1 (reason_of (shown_by (disk_of D.Disk disk)))) }
     {
         let mounted = match mount(&mut disk, &mut root, &mut block) {
             Ok(mounted) => mounted,
@@ -144,8 +147,8 @@ fn head_in(g: &Geometry, block: &[u8], place: u32) -> Result<Head, Damage>
 
 /// What reads the head of the root directory of an image.
 ///
-/// `root` is what the image says of it, where `shows` says that the image is told, and `faults` the count
-/// of the faults below. `same` says that what stands below is the same but for that count.
+/// `root` is what the image says of it, where `shows` says that the image is told, and `faults` the
+/// count of the faults below. `same` says that what stands below is the same but for that count.
 pub trait ReadRoot {
     ghost shows: { Self → Bool };
 
@@ -171,11 +174,12 @@ pub trait ReadRoot {
 impl<D: Disk> ReadRoot for Volume<D> {
     ghost shows = { λ v. (D.origin v.disk).shows };
 
-    ghost root = { λ v. head_of v.kept.geometry (shown_image (D.origin v.disk) (D.shown v.disk)) v.kept.root.items root_number };
+    ghost root = { λ v.
+        head_of v.kept.geometry (shown_by (disk_of D.Disk v.disk)) v.kept.root.items root_number };
 
     ghost faults = { λ v. D.faults v.disk };
 
-    ghost same = { λ v w. IsUntouched (D.origin v.disk) (D.origin w.disk) (D.shown v.disk) (D.shown w.disk) (D.may_hold v.disk) (D.may_hold w.disk) (D.is_sure v.disk) (D.is_sure w.disk) };
+    ghost same = { λ v w. IsUntouched (disk_of D.Disk v.disk) (disk_of D.Disk w.disk) };
 
     ghost same_as_it_is = { λ v. untouched };
 

@@ -8,15 +8,16 @@ use Rattle.edge_base.specs.declared.node.NodeFault.TheVariants.{WrongSignature}
 use Rattle.edge_base.specs.layout.Places.{IsWithinLimits}
 use Rattle.edge_base.specs.layout.Bytes.{signature_in}
 use Rattle.edge_base.specs.layout.Spelling.{master_signature, master_in, SpellsNoNode}
-use Rattle.edge_disk.specs.Disk.{Origin}
-use Rattle.edge_disk.specs.Image.{Image, shown_image, IsPermitted}
+use Rattle.edge_disk.specs.Disk.{Origin, DiskState}
+use Rattle.edge_disk.specs.Image.{Image, IsPermitted}
+use Rattle.edge_disk.specs.State.{shown_by, EachCut, EachPermitted, IsTold, Keeps}
 use Rattle.edge_image.specs.Opens.{IsAlike}
 use Rattle.edge_image.specs.Formatted.{master_of, root_place, zero_block, HasFirstMetaroot, HasEmptyRoot, OpensFresh}
 use Rattle.edge_image.proofs.FormattedLaws.{no_signature, opens_fresh}
 use Rattle.edge_nodes.proofs.HeaderLaws.{passed}
 use Rattle.edge_nodes.proofs.MasterLaws.{spelled_master}
-use Rattle.edge_format.specs.Disk.{IsTold, Keeps, IsBesideNodes, HasNodes}
-use Rattle.edge_format.specs.Cut.{EachPermitted, EachPlain, HasNoMaster, IsOldOrFresh}
+use Rattle.edge_format.specs.Nodes.{IsBesideNodes, HasNodes}
+use Rattle.edge_format.specs.Cut.{HasNoMaster, IsOldOrFresh}
 
 pub on_err : {T E : Type 0} (r : Result T E) (P : Type 0) → P → OnErr r P
 on_err (Ok x) P p = tt
@@ -39,8 +40,8 @@ no_node_has_none image none = λ m e. none.no_master m (spelled_master (image.bl
 
 -- ---- states
 
-pub still_told : (old new : Origin) (before now : ℕ) → new ≡ old → now ≡ before → IsTold old before → IsTold new now
-still_told old new before now origin faults told = record {
+pub still_told : (old new : DiskState) → new.origin ≡ old.origin → new.faults ≡ old.faults → IsTold old → IsTold new
+still_told old new origin faults told = record {
   shows = subst (λ (o : Origin). IsTrue o.shows) (sym origin) told.shows;
   keeps = subst (λ (o : Origin). IsTrue o.keeps) (sym origin) told.keeps;
   no_fault = faults ∙ told.no_fault;
@@ -64,8 +65,8 @@ has_room g old new limits size fits same =
 -- ---- images
 
 -- a candidate of a sure block is what reads give
-abbrev pub IsOnlyShown : (ℕ → List ℕ) → (ℕ → List ℕ → Type 0) → (ℕ → Type 0) → Type 0
-IsOnlyShown shown may_hold is_sure = (b : ℕ) (c : List ℕ) → is_sure b → may_hold b c → c ≡ shown b
+abbrev pub IsOnlyShown : DiskState → Type 0
+IsOnlyShown disk = (b : ℕ) (c : List ℕ) → disk.is_sure b → disk.may_hold b c → c ≡ disk.shown b
 
 -- blocks that hold the nodes still do where each of them stays
 nodes_stay : (g : Request) (blocks : ℕ) (old new : ℕ → List ℕ) → root_place g < blocks → ((b : ℕ) → b ≢ 0 → b < blocks → new b ≡ old b) → HasNodes g old → HasNodes g new
@@ -86,60 +87,64 @@ formatted g time image origin blocks size room master has = opens_fresh g time i
   root = has.root;
 })
 
--- what is shown at the end opens
-pub shown_opens : (g : Request) (time : ℕ) (origin : Origin) (before shown : ℕ → List ℕ) → HasRoom g origin → HasNodes g before → ((b : ℕ) → b ≢ 0 → shown b ≡ before b) → master_in (shown 0) ≡ Ok (master_of g time)
-    → OpensFresh g time (shown_image origin shown)
-shown_opens g time origin before shown room has same master =
-    formatted g time (shown_image origin shown) origin refl refl room master (nodes_stay g origin.blocks before shown room.nodes (λ b far below. same b far) has)
+module _ (g : Request) (time : ℕ) (disk : DiskState) (room : HasRoom g disk.origin) where
+  -- what is shown at the end opens
+  pub shown_opens : (before : ℕ → List ℕ) → HasNodes g before → ((b : ℕ) → b ≢ 0 → disk.shown b ≡ before b) → master_in (disk.shown 0) ≡ Ok (master_of g time)
+      → OpensFresh g time (shown_by disk)
+  shown_opens before has same master =
+      formatted g time (shown_by disk) disk.origin refl refl room master (nodes_stay g disk.origin.blocks before disk.shown room.nodes (λ b far below. same b far) has)
 
-module _ (g : Request) (time : ℕ) (origin : Origin) (shown : ℕ → List ℕ) (may_hold : ℕ → List ℕ → Type 0) (is_sure : ℕ → Type 0) (room : HasRoom g origin) (only : IsOnlyShown shown may_hold is_sure) where
-  -- a sure block of a permitted image
-  sure_block : (image : Image) → IsPermitted origin may_hold is_sure image → (b : ℕ) → b < origin.blocks → is_sure b → image.block b ≡ shown b
-  sure_block image permitted b below sure = only b (image.block b) sure (permitted.only b below sure)
+  module _ (only : IsOnlyShown disk) where
+    -- a sure block of a permitted image
+    sure_block : (image : Image) → IsPermitted disk.origin disk.may_hold disk.is_sure image → (b : ℕ) → b < disk.origin.blocks → disk.is_sure b → image.block b ≡ disk.shown b
+    sure_block image permitted b below sure = only b (image.block b) sure (permitted.only b below sure)
 
-  -- each permitted image opens where all blocks are sure
-  pub all_open : (before : ℕ → List ℕ) → ((b : ℕ) → is_sure b) → HasNodes g before → ((b : ℕ) → b ≢ 0 → shown b ≡ before b) → master_in (shown 0) ≡ Ok (master_of g time) → EachPermitted origin may_hold is_sure (OpensFresh g time)
-  all_open before sure has stay master = λ image permitted.
-      let same : (b : ℕ) → b < origin.blocks → image.block b ≡ shown b = λ b below. sure_block image permitted b below (sure b) in
-      let nodes = room.nodes in
-      formatted g time image origin permitted.blocks permitted.block_size room (ap master_in (same 0 (omega arith)) ∙ master) (nodes_stay g origin.blocks before image.block nodes (λ b far below. same b below ∙ stay b far) has)
-
-  -- no volume where the master is cleared
-  pub cut_writing : (old : Image) → is_sure 0 → shown 0 ≡ zero_block g → EachPlain origin may_hold is_sure (IsOldOrFresh old g time)
-  cut_writing old sure zeros = λ image permitted plain.
-      let nodes = room.nodes in
-      inr (inl (zeros_have_none image g.block_size (sure_block image permitted 0 (omega arith) sure ∙ zeros)))
-
-  module _ (before : ℕ → List ℕ) (may_before : ℕ → List ℕ → Type 0) (sure_before : ℕ → Type 0) (only_before : IsOnlyShown before may_before sure_before) (keeps : Keeps (λ b. b ≢ 0) before shown may_before may_hold sure_before is_sure) where
-    -- the blocks behind the master
-    others : (image : Image) → IsPermitted origin may_hold is_sure image → ((b : ℕ) → b < origin.blocks → sure_before b) → (b : ℕ) → b ≢ 0 → b < origin.blocks → image.block b ≡ before b
-    others image permitted sure b far below = sure_block image permitted b below (keeps.sure b far (sure b below)) ∙ keeps.shown b far
-
-    -- the old image or no volume while the master is cleared
-    pub cut_clearing : (old : Origin) → origin ≡ old → ((b : ℕ) → b < origin.blocks → sure_before b) → ((c : List ℕ) → may_hold 0 c → may_before 0 c ⊎ (c ≡ zero_block g))
-        → EachPlain origin may_hold is_sure (IsOldOrFresh (shown_image old before) g time)
-    cut_clearing old same sure adds = λ image permitted plain.
+    -- each permitted image opens where all blocks are sure
+    pub all_open : (before : ℕ → List ℕ) → ((b : ℕ) → disk.is_sure b) → HasNodes g before → ((b : ℕ) → b ≢ 0 → disk.shown b ≡ before b) → master_in (disk.shown 0) ≡ Ok (master_of g time)
+        → EachPermitted disk (OpensFresh g time)
+    all_open before sure has stay master = λ image permitted.
+        let same : (b : ℕ) → b < disk.origin.blocks → image.block b ≡ disk.shown b = λ b below. sure_block image permitted b below (sure b) in
         let nodes = room.nodes in
-        let some : 0 < origin.blocks = omega arith in
-        let blocks = ap (λ (o : Origin). o.blocks) same in
-        let unchanged : image.block 0 ≡ before 0 → IsAlike (shown_image old before) image = λ first. record {
-          blocks = permitted.blocks ∙ blocks;
-          block_size = permitted.block_size ∙ ap (λ (o : Origin). o.block_size) same;
-          same = λ b below. elim (cases_eq b 0) [
-            | inl e ↦ subst (λ (k : ℕ). image.block k ≡ before k) (sym e) first
-            | inr far ↦ others image permitted sure b far (omega arith)
-          ];
-        } in
-        ⊎_elim (λ here. ⊎_elim (λ was. inl (unchanged (only_before 0 (image.block 0) (sure 0 some) was))) (λ zeros. inr (inl (zeros_have_none image g.block_size zeros))) (adds (image.block 0) here))
-        (λ none. inr (inl (no_node_has_none image none))) (plain 0 (omega arith) some)
+        formatted g time image disk.origin permitted.blocks permitted.block_size room (ap master_in (same 0 (omega arith)) ∙ master)
+        (nodes_stay g disk.origin.blocks before image.block nodes (λ b far below. same b below ∙ stay b far) has)
 
-    -- no volume or a fresh one while the master is written
-    pub cut_ending : (old : Image) → ((b : ℕ) → sure_before b) → before 0 ≡ zero_block g → HasNodes g before → ((c : List ℕ) → may_hold 0 c → may_before 0 c ⊎ (master_in c ≡ Ok (master_of g time)))
-        → EachPlain origin may_hold is_sure (IsOldOrFresh old g time)
-    cut_ending old sure zeros has adds = λ image permitted plain.
+    -- no volume where the master is cleared
+    pub cut_writing : (old : Image) → disk.is_sure 0 → disk.shown 0 ≡ zero_block g → EachCut disk (IsOldOrFresh old g time)
+    cut_writing old sure zeros = λ image permitted plain.
         let nodes = room.nodes in
-        let behind = others image permitted (λ b below. sure b) in
-        let fresh : master_in (image.block 0) ≡ Ok (master_of g time) → OpensFresh g time image
-        = λ master. formatted g time image origin permitted.blocks permitted.block_size room master (nodes_stay g origin.blocks before image.block nodes behind has) in
-        ⊎_elim (λ here. ⊎_elim (λ was. inr (inl (zeros_have_none image g.block_size (only_before 0 (image.block 0) (sure 0) was ∙ zeros)))) (λ master. inr (inr (fresh master))) (adds (image.block 0) here))
-        (λ none. inr (inl (no_node_has_none image none))) (plain 0 (omega arith) (omega arith))
+        inr (inl (zeros_have_none image g.block_size (sure_block image permitted 0 (omega arith) sure ∙ zeros)))
+
+    module _ (before : DiskState) (only_before : IsOnlyShown before) (keeps : Keeps (λ b. b ≢ 0) before disk) where
+      -- the blocks behind the master
+      others : (image : Image) → IsPermitted disk.origin disk.may_hold disk.is_sure image → ((b : ℕ) → b < disk.origin.blocks → before.is_sure b) → (b : ℕ) → b ≢ 0 → b < disk.origin.blocks
+          → image.block b ≡ before.shown b
+      others image permitted sure b far below = sure_block image permitted b below (keeps.sure b far (sure b below)) ∙ keeps.shown b far
+
+      -- the old image or no volume while the master is cleared
+      pub cut_clearing : disk.origin ≡ before.origin → ((b : ℕ) → b < disk.origin.blocks → before.is_sure b) → ((c : List ℕ) → disk.may_hold 0 c → before.may_hold 0 c ⊎ (c ≡ zero_block g))
+          → EachCut disk (IsOldOrFresh (shown_by before) g time)
+      cut_clearing same sure adds = λ image permitted plain.
+          let nodes = room.nodes in
+          let some : 0 < disk.origin.blocks = omega arith in
+          let blocks = ap (λ (o : Origin). o.blocks) same in
+          let unchanged : image.block 0 ≡ before.shown 0 → IsAlike (shown_by before) image = λ first. record {
+            blocks = permitted.blocks ∙ blocks;
+            block_size = permitted.block_size ∙ ap (λ (o : Origin). o.block_size) same;
+            same = λ b below. elim (cases_eq b 0) [
+              | inl e ↦ subst (λ (k : ℕ). image.block k ≡ before.shown k) (sym e) first
+              | inr far ↦ others image permitted sure b far (omega arith)
+            ];
+          } in
+          ⊎_elim (λ here. ⊎_elim (λ was. inl (unchanged (only_before 0 (image.block 0) (sure 0 some) was))) (λ zeros. inr (inl (zeros_have_none image g.block_size zeros))) (adds (image.block 0) here))
+          (λ none. inr (inl (no_node_has_none image none))) (plain 0 (omega arith) some)
+
+      -- no volume or a fresh one while the master is written
+      pub cut_ending : (old : Image) → ((b : ℕ) → before.is_sure b) → before.shown 0 ≡ zero_block g → HasNodes g before.shown
+          → ((c : List ℕ) → disk.may_hold 0 c → before.may_hold 0 c ⊎ (master_in c ≡ Ok (master_of g time))) → EachCut disk (IsOldOrFresh old g time)
+      cut_ending old sure zeros has adds = λ image permitted plain.
+          let nodes = room.nodes in
+          let behind = others image permitted (λ b below. sure b) in
+          let fresh : master_in (image.block 0) ≡ Ok (master_of g time) → OpensFresh g time image
+          = λ master. formatted g time image disk.origin permitted.blocks permitted.block_size room master (nodes_stay g disk.origin.blocks before.shown image.block nodes behind has) in
+          ⊎_elim (λ here. ⊎_elim (λ was. inr (inl (zeros_have_none image g.block_size (only_before 0 (image.block 0) (sure 0) was ∙ zeros)))) (λ master. inr (inr (fresh master))) (adds (image.block 0) here))
+          (λ none. inr (inl (no_node_has_none image none))) (plain 0 (omega arith) (omega arith))

@@ -1,6 +1,6 @@
 ghost use Rattle.std.specs.Prelude.{◌≡◌, ◌≢◌, ◌⊎◌, ◌<◌, ℕ, List, length, IsTrue, OnOk};
 ghost use Rattle.edge_base.specs.outside.Faults.{HasCause};
-ghost use Rattle.edge_format.specs.Disk.{IsTold, Keeps};
+ghost use Rattle.edge_disk.specs.State.{disk_of, IsTold, Keeps};
 
 use edge_disk::{DeviceFault, Disk};
 
@@ -10,10 +10,13 @@ pub fn put<D: Disk>(disk: &mut D, b: u32, bytes: &[u8]) -> Result<(), DeviceFaul
     requires whole { length bytes.now ≡ (D.origin disk.old).block_size }
     ensures origin { D.origin disk.new ≡ D.origin disk.old }
     ensures cause { HasCause (D.faults disk.old) (D.faults disk.new) result }
-    ensures shown { IsTrue (D.origin disk.old).shows → OnOk result (D.shown disk.new b ≡ bytes.now) }
-    ensures sure { IsTold (D.origin disk.old) (D.faults disk.old) → OnOk result ((k : ℕ) → D.is_sure disk.new k) }
-    ensures adds { (c : List ℕ) → D.may_hold disk.new b c → D.may_hold disk.old b c ⊎ (c ≡ bytes.now) }
-    ensures kept { Keeps (λ k. k ≢ b) (D.shown disk.old) (D.shown disk.new) (D.may_hold disk.old) (D.may_hold disk.new) (D.is_sure disk.old) (D.is_sure disk.new) }
+    ensures shown { IsTrue (D.origin disk.old).shows
+        → OnOk result (D.shown disk.new b ≡ bytes.now) }
+    ensures sure { IsTold (disk_of D.Disk disk.old)
+        → OnOk result ((k : ℕ) → D.is_sure disk.new k) }
+    ensures adds { (c : List ℕ) → D.may_hold disk.new b c
+        → D.may_hold disk.old b c ⊎ (c ≡ bytes.now) }
+    ensures kept { Keeps (λ k. k ≢ b) (disk_of D.Disk disk.old) (disk_of D.Disk disk.new) }
 {
     disk.write(b, bytes)?;
     disk.flush()?;

@@ -7,8 +7,9 @@ use Rattle.edge_base.specs.declared.node.Master.{Master}
 use Rattle.edge_base.specs.layout.Spelling.{master_in}
 use Rattle.edge_base.specs.tree.Positions.{Position, has}
 use Rattle.edge_base.specs.tree.Nodes.{Node, kind_of, size_of, parent_of}
-use Rattle.edge_disk.specs.Disk.{Origin}
-use Rattle.edge_disk.specs.Image.{Image, shown_image}
+use Rattle.edge_disk.specs.Disk.{DiskState}
+use Rattle.edge_disk.specs.Image.{Image}
+use Rattle.edge_disk.specs.State.{shown_by}
 use Rattle.edge_store.specs.View.{View, whole, broken, is_used}
 use Rattle.edge_store.specs.Placed.{block_at, HoldsNode}
 use Rattle.edge_model.specs.Tree.{Tree, links_of, tree_positions}
@@ -61,7 +62,7 @@ pub record IsAlike (image other : Image) : Type 0 where
   pub same : (b : ℕ) → b < image.blocks → other.block b ≡ image.block b
 
 -- A disk is sound where each of its blocks has one candidate, it has had no fault, and what it shows opens to the tree.
-pub record IsSound (origin : Origin) (shown : ℕ → List ℕ) (is_sure : ℕ → Type 0) (faults : ℕ) (t : Tree) : Type 0 where
-  pub sure : (b : ℕ) → b < origin.blocks → is_sure b
-  pub no_fault : faults ≡ 0
-  pub opens : OpensTo (shown_image origin shown) t
+pub record IsSound (disk : DiskState) (t : Tree) : Type 0 where
+  pub sure : (b : ℕ) → b < disk.origin.blocks → disk.is_sure b
+  pub no_fault : disk.faults ≡ 0
+  pub opens : OpensTo (shown_by disk) t

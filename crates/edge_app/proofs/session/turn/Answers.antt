@@ -1,7 +1,7 @@
 use Rattle.std.proofs.Common.{◌++◌, ap, ◌∙◌, subst, Ok, Err}
 use Rattle.edge_app.specs.declared.volume.VolumeFault.TheVariants.{Damaged, Device}
 use Rattle.edge_app.specs.Turn.{AnswersTo}
-use Rattle.edge_app.specs.Part.{TookPart}
+use Rattle.edge_io.specs.Streams.{TookPart}
 use Rattle.edge_app.proofs.SessionLaws.{meets_damage, leaves_line, answers_line, answers_part}
 use Rattle.edge_app.proofs.session.turn.Goals as goal
 
@@ -35,4 +35,4 @@ returns-in-Err-write_all-clause-turned g c = λ shows tells told.
     let answer = c.in-Ok.ensures.told shows in
     answers_part (g.R.ReadRoot.root c.args.root.now) _ _ _ _ _ _ line c.in-Ok.reply.bytes _ _
     (subst (λ l. AnswersTo (g.R.ReadRoot.root c.args.root.now) l (Ok c.in-Ok.reply.bytes)) c.line.ensures answer)
-    (subst (λ r. TookPart r (g.K.Sink.taken c.args.out.now) (g.K.Sink.taken c.write_all.new.out)) (c.as_bytes.ensures.value ∙ c.as_str.ensures.value) (c.in-Err-write_all.ensures.cut told))
+    (subst (λ r. TookPart r (g.K.Sink.taken c.args.out.now) (g.K.Sink.taken c.write_all.new.out)) (c.as_bytes.ensures.value ∙ c.as_str.ensures.value) (c.in-Err-write_all.ensures.part told))
