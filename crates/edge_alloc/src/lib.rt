@@ -1,9 +1,8 @@
 //! The search for a free block in two bitmaps, and the counts of free blocks.
 #![tactic(auto)]
 
-ghost use Rattle.std.specs.Prelude.{◌≡◌, ◌<◌, ◌≤◌, ◌+◌, ◌*◌, ◌^◌, max, length, IfSome, IfNone};
-ghost use Rattle.edge_bits.specs.Bits.{IsLeast, NonePasses};
-ghost use Rattle.edge_alloc.specs.Pairs.{is_free, counts_of};
+ghost use Rattle.std.specs.Prelude.{◌≡◌, ◌<◌, ◌≤◌, ◌+◌, ◌*◌, ◌^◌, length, IfSome, IfNone};
+ghost use Rattle.edge_alloc.specs.Pairs.{IsLeastFree, NoneIsFree, counts_of};
 
 #[cfg(test)]
 mod tests;
@@ -24,13 +23,14 @@ pub struct Counts {
     pub almost: u32,
 }
 
-/// The least bit of a window from `from` on that is clear in both bitmaps; None where there is none.
+/// The least bit of a window, from `from` on, that is clear in both bitmaps; None where there is
+/// none.
 pub fn free_in(committed: &[u8], working: &[u8], w: Window, from: u32) -> Option<u32>
     requires small { w.first + w.len < 2 ^ 32 }
     requires committed { w.first + w.len ≤ 8 * length committed.now }
     requires working { w.first + w.len ≤ 8 * length working.now }
-    ensures found { IfSome result (IsLeast (is_free committed.now working.now) (max w.first from) (w.first + w.len)) }
-    ensures none { IfNone result (NonePasses (is_free committed.now working.now) (max w.first from) (w.first + w.len)) }
+    ensures found { IfSome result (IsLeastFree committed.now working.now w from) }
+    ensures none { IfNone result (NoneIsFree committed.now working.now w from) }
 {
     let start = w.first.max(from);
     let end = w.first + w.len;
