@@ -8,8 +8,6 @@ mod reply;
 mod report;
 mod running;
 mod session;
-#[cfg(test)]
-mod tests;
 mod top;
 mod volume;
 
