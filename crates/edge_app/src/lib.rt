@@ -9,8 +9,6 @@ mod reply;
 mod report;
 mod run_command;
 mod session;
-#[cfg(test)]
-mod tests;
 mod volume;
 
 pub use program::edge;

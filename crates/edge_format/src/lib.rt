@@ -6,7 +6,5 @@
 mod formatter;
 mod nodes;
 mod put;
-#[cfg(test)]
-mod tests;
 
 pub use formatter::{FormatFault, format};

@@ -7,8 +7,6 @@ mod inode;
 mod master;
 mod metaroot;
 mod reading;
-#[cfg(test)]
-mod tests;
 mod writing;
 
 pub use bits::{bit_of, bits_of, entry_of};

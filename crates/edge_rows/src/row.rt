@@ -1,0 +1,171 @@
+use crate::cuts::{push_cuts, shown};
+use crate::image::Image;
+use crate::nodes::{push_block, push_node};
+use crate::orders::{order, push_answer, sure_order};
+use crate::text::{byte, moments, number, numbers, push_faults, unescaped, word};
+use anyhow::{Context, Result, ensure};
+use std::alloc::{AllocError, Global};
+use std::fs;
+use std::rt::Files;
+
+/// What the statements of a line have set for its calls of `edge`.
+#[derive(Drop)]
+pub struct Row {
+    pub script: Vec<u8>,
+    pub disk_fails: Vec<u64>,
+    pub source_fails: Vec<u64>,
+    pub sink_fails: Vec<u64>,
+    /// The most bytes that one call gives or takes.
+    pub source_piece: usize,
+    pub sink_piece: usize,
+    /// The bytes that the sink has room for.
+    pub sink_room: usize,
+    /// The candidates that the disk has room for besides one a block.
+    pub disk_room: usize,
+    pub moments: Vec<u32>,
+}
+
+impl Row {
+    fn new(alloc: Global) -> Row {
+        Row {
+            script: Vec::new(alloc),
+            disk_fails: Vec::new(alloc),
+            source_fails: Vec::new(alloc),
+            sink_fails: Vec::new(alloc),
+            source_piece: usize::MAX,
+            sink_piece: usize::MAX,
+            sink_room: 4096,
+            disk_room: 8,
+            moments: Vec::new(alloc),
+        }
+    }
+
+    /// A script of one line, and nothing else set.
+    pub fn of_script(alloc: Global, line: &str) -> Result<Row, AllocError> {
+        let mut row = Row::new(alloc);
+        row.script.extend_from_slice(line.as_bytes())?;
+        Ok(row)
+    }
+}
+
+/// What the statements of a line answer.
+pub fn answer_row<R: Files + AllocGlobal>(rt: &R, image: &mut Image, line: &str) -> Result<String> {
+    let mut out = String::new(rt.alloc());
+    let mut row = Row::new(rt.alloc());
+    for text in line.split("; ") {
+        let words: Vec<&str> = text
+            .split(' ')
+            .map(|word| if word == "''" { "" } else { word })
+            .collect(rt.alloc())?;
+        let (verb, rest) = words.split_first().context("no word")?;
+        let is_done = change(rt, image, verb, rest)?
+            || set(rt.alloc(), &mut row, verb, rest)?
+            || write_script(rt.alloc(), &mut row, verb, text)?
+            || tell(rt.alloc(), &mut out, &row, image, verb, rest)?;
+        ensure!(is_done, "no statement: {text}");
+    }
+    Ok(out)
+}
+
+// Changes the image, where this is such a statement.
+fn change<R: Files + AllocGlobal>(
+    rt: &R,
+    image: &mut Image,
+    verb: &str,
+    words: &[&str],
+) -> Result<bool> {
+    let alloc = rt.alloc();
+    match verb {
+        "stored" => image.set(fs::read(rt, word(words, 0)?)?, number(words, 1)?),
+        "image" => {
+            let length = number(words, 0)?.saturating_mul(number(words, 1)?);
+            let filled = byte(alloc, word(words, 2)?)?;
+            image.set(vec![in alloc; filled; length]?, number(words, 0)?);
+        }
+        "length" => image.bytes.resize(number(words, 0)?, 0)?,
+        "keep" => image.keep()?,
+        "back" => image.back()?,
+        "put" => {
+            let bytes = hex::decode(alloc, word(words, 2)?)?;
+            image.put(number(words, 0)?, number(words, 1)?, &bytes)?;
+            if words.get(3).copied() == Some("seal") {
+                image.seal(number(words, 0)?)?;
+            }
+        }
+        "fill" => image.fill(number(words, 0)?, byte(alloc, word(words, 1)?)?)?,
+        "copy" => image.copy(alloc, number(words, 0)?, number(words, 1)?)?,
+        _ => return Ok(false),
+    }
+    Ok(true)
+}
+
+// Sets what a call is made with, where this is such a statement.
+fn set(alloc: Global, row: &mut Row, verb: &str, words: &[&str]) -> Result<bool> {
+    match verb {
+        "fail" => {
+            let calls = numbers(alloc, words)?;
+            match word(words, 0)? {
+                "disk" => row.disk_fails = calls,
+                "source" => row.source_fails = calls,
+                _ => row.sink_fails = calls,
+            }
+        }
+        "room" => match word(words, 0)? {
+            "disk" => row.disk_room = number(words, 1)?,
+            _ => row.sink_room = number(words, 1)?,
+        },
+        "pieces" => {
+            row.source_piece = number(words, 0)?;
+            row.sink_piece = number(words, 1)?;
+        }
+        "moments" => row.moments = moments(alloc, words)?,
+        _ => return Ok(false),
+    }
+    Ok(true)
+}
+
+// Appends to the script, where this is such a statement.
+fn write_script(alloc: Global, row: &mut Row, verb: &str, text: &str) -> Result<bool> {
+    let (_, rest) = text.split_once(' ').unwrap_or((text, ""));
+    let (times, part) = match verb {
+        "line" | "text" => ("1", rest),
+        "times" => rest.split_once(' ').context("times COUNT TEXT")?,
+        _ => return Ok(false),
+    };
+    let bytes = unescaped(alloc, part)?;
+    for _ in 0..times.parse::<u32>()? {
+        row.script.extend_from_slice(&bytes)?;
+    }
+    if verb == "line" {
+        row.script.push(b'\n')?;
+    }
+    Ok(true)
+}
+
+// Appends what a call or a look at the image answers, where this is such a statement.
+fn tell(
+    alloc: Global,
+    out: &mut String,
+    row: &Row,
+    image: &mut Image,
+    verb: &str,
+    words: &[&str],
+) -> Result<bool> {
+    match verb {
+        "edge" => {
+            let answer = order(alloc, row, words, &image.bytes, &row.disk_fails)?;
+            push_answer(out, row, &answer, Some(answer.disk.calls()))?;
+            image.bytes = shown(alloc, &answer.disk)?;
+        }
+        "sure" => {
+            let answer = sure_order(alloc, row, words, &image.bytes)?;
+            push_answer(out, row, &answer, None)?;
+        }
+        "cuts" => push_cuts(alloc, out, row, words, image)?,
+        "show" => push_block(out, image.block(number(words, 0)?)?)?,
+        "master" | "metaroot" | "inode" => push_node(out, image, verb, number(words, 0)?)?,
+        "faults" => push_faults(out)?,
+        _ => return Ok(false),
+    }
+    Ok(true)
+}
