@@ -1,5 +1,5 @@
 ghost use Rattle.std.specs.Prelude.{◌≡◌, IfOk};
-ghost use Rattle.edge_base.specs.layout.Places.{entries_of, root_bits_of};
+ghost use Rattle.edge_base.specs.layout.Places.{entries_of, pointers_of, root_bits_of};
 
 use super::*;
 use edge_base::{BadGeometry, Geometry, Request};
@@ -28,8 +28,15 @@ const ROOT: [u8; 48] = [
     0x00, 0x00, 0x00, 0x00, 0x00, 0x00, 0x00, 0x00, 0x00, 0x00, 0x00, 0x00, 0x00, 0x00, 0x00, 0x00,
 ];
 
+// An indirect node of inode 3, written for point 2: its entries 1 and 2 are 20 and 65,537.
+const INDIRECT: [u8; 48] = [
+    0x49, 0x4e, 0x44, 0x49, 0x0a, 0x07, 0x6c, 0x52, 0x02, 0x00, 0x00, 0x00, 0x00, 0x00, 0x00, 0x00,
+    0x03, 0x00, 0x00, 0x00, 0x00, 0x00, 0x00, 0x00, 0x14, 0x00, 0x00, 0x00, 0x01, 0x00, 0x01, 0x00,
+    0x00, 0x00, 0x00, 0x00, 0x00, 0x00, 0x00, 0x00, 0x00, 0x00, 0x00, 0x00, 0x00, 0x00, 0x00, 0x00,
+];
+
 fn small() -> Result<Geometry, BadGeometry>
-    ensures { IfOk result (λ g. (g.block_size ≡ 512) × (entries_of g ≡ 120) × (root_bits_of g ≡ 61)) }
+    ensures { IfOk result (λ g. (g.block_size ≡ 512) × (g.inodes ≡ 8) × (entries_of g ≡ 120) × (pointers_of g ≡ 123) × (root_bits_of g ≡ 61)) }
 {
     Geometry::checked(Request {
         block_size: 512,
@@ -190,5 +197,55 @@ fn reads_numbers_and_words(rt: HostRuntime) -> Result<(), Fail> {
     let numbers = block_of(&MASTER);
     assert_eq!(rt; entry_of(&numbers, 32, 0), 8);
     assert_eq!(rt; entry_of(&numbers, 32, 2), 0x0004_001c);
+    Ok(())
+}
+
+#[test]
+fn writes_and_changes_pointer_nodes(rt: HostRuntime) -> Result<(), Fail> {
+    let geometry = small()?;
+    let mut entries = [0; 123];
+    entries[1] = 20;
+    let mut out = [0xa5; 512];
+    encode_pointer(&geometry, false, 1, 3, &entries, &mut out);
+    change_sequence(&mut out, 2);
+    change_pointer(&mut out, 2, 65_537);
+    seal(&mut out);
+    assert_eq!(rt; out, block_of(&INDIRECT));
+    assert_eq!(rt; decode_pointer(&geometry, false, &out)?, 3);
+    assert_eq!(rt; entry_of(&out, 20, 2), 65_537);
+    for (double, at, byte, fault) in [
+        (true, 0, b'I', NodeFault::WrongSignature),
+        (false, 1, b'X', NodeFault::WrongSignature),
+        (false, 16, 1, NodeFault::WrongField(16)),
+        (false, 16, 10, NodeFault::WrongField(16)),
+    ] {
+        let b = changed(&INDIRECT, at, byte);
+        assert_eq!(rt;
+            decode_pointer(&geometry, double, &b),
+            Err(fault),
+            "{byte} at {at}"
+        );
+    }
+    Ok(())
+}
+
+#[test]
+fn changes_an_inode(rt: HostRuntime) -> Result<(), Fail> {
+    let geometry = small()?;
+    let head = Head {
+        size: 600,
+        kind: NodeType::File,
+        links: 2,
+        parent: 0,
+    };
+    let mut entries = [0; 120];
+    entries[119] = 63;
+    let mut expected = [0; 512];
+    encode_inode(&geometry, 7, &head, &entries, &mut expected);
+    let mut out = block_of(&ROOT);
+    change_head(&mut out, 7, &head);
+    change_entry(&mut out, 119, 63);
+    seal(&mut out);
+    assert_eq!(rt; out, expected);
     Ok(())
 }
