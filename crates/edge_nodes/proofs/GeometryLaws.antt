@@ -55,23 +55,24 @@ limits g e =
       inline = is_true _ inline.0;
     }
 
--- a block is not too short for a node's header, and holds whole numbers of four bytes behind the first 32
+-- a block is not too short for a node's header, and holds whole numbers of four bytes behind the first 32 and the first 20
 pub record IsBlockLong (n : ℕ) : Type 0 where
   pub least : 512 ≤ n
   pub most : n ≤ 4096
   pub whole : 32 + 4 * ((n - 32) / 4) ≡ n
+  pub pointers : 20 + 4 * ((n - 20) / 4) ≡ n
 
 four_sizes : (n : ℕ) → is_block_size n ≡ true → (n ≡ 512) ⊎ (n ≡ 1024) ⊎ (n ≡ 2048) ⊎ (n ≡ 4096)
 four_sizes n e = grind (arith, nat_tests)
 
 pub block_long : (n : ℕ) → is_block_size n ≡ true → IsBlockLong n
 block_long n e = elim (four_sizes n e) [
-  | inl a ↦ record { least = omega arith; most = omega arith; whole = omega arith }
+  | inl a ↦ record { least = omega arith; most = omega arith; whole = omega arith; pointers = omega arith }
   | inr b ↦ elim b [
-    | inl c ↦ record { least = omega arith; most = omega arith; whole = omega arith }
+    | inl c ↦ record { least = omega arith; most = omega arith; whole = omega arith; pointers = omega arith }
     | inr d ↦ elim d [
-      | inl f ↦ record { least = omega arith; most = omega arith; whole = omega arith }
-      | inr h ↦ record { least = omega arith; most = omega arith; whole = omega arith }
+      | inl f ↦ record { least = omega arith; most = omega arith; whole = omega arith; pointers = omega arith }
+      | inr h ↦ record { least = omega arith; most = omega arith; whole = omega arith; pointers = omega arith }
     ]
   ]
 ]

@@ -5,3 +5,5 @@ pub mod WritingLaws
 pub mod MasterLaws
 pub mod MetarootLaws
 pub mod InodeLaws
+pub mod PointerLaws
+pub mod ChangeLaws

@@ -1,2 +1,4 @@
 pub mod Headers
 pub mod Writing
+pub mod Pointers
+pub mod Changes

@@ -71,7 +71,7 @@ fn read_inode(b: &[u8]) -> Result<Head, NodeFault>
 }
 
 // Writes the fields of a head.
-fn put_head(b: &mut [u8], head: &Head)
+pub(crate) fn put_head(b: &mut [u8], head: &Head)
     requires { 32 ≤ length b.old }
     ensures size { number_at 16 8 b.new ≡ head.now.size }
     ensures mode { number_at 24 2 b.new ≡ number_of_kind head.now.kind }

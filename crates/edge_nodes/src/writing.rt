@@ -1,7 +1,6 @@
 ghost use Rattle.std.specs.Prelude.{◌≡◌, ℕ, ◌+◌, ◌*◌, ◌<◌, ◌≤◌, length, take, drop, slice_index};
 ghost use Rattle.edge_base.specs.layout.Bytes.{number_at, numbers_at, signature_in};
-ghost use Rattle.edge_base.specs.layout.Word.{check_word_of};
-ghost use Rattle.edge_nodes.specs.Writing.{ChangesOnly};
+ghost use Rattle.edge_nodes.specs.Writing.{ChangesOnly, IsSealed};
 
 use byteorder::{BigEndian, ByteOrder, LittleEndian};
 use edge_word::check_word;
@@ -88,9 +87,7 @@ pub(crate) fn put_numbers(b: &mut [u8], from: usize, numbers: &[u32])
 /// Puts the check word into bytes 4 to 7 and changes nothing else.
 pub fn seal(b: &mut [u8])
     requires { 8 ≤ length b.old }
-    ensures word { number_at 4 4 b.new ≡ check_word_of (drop 8 b.new) }
-    ensures front { take 4 b.new ≡ take 4 b.old }
-    ensures back { drop 8 b.new ≡ drop 8 b.old }
+    ensures { IsSealed b.old b.new }
 {
     let word = check_word(&b[8..]);
     put_u32(b, 4, word);

@@ -11,3 +11,6 @@ returns-clause-most c = subst (λ (r : Request). r.block_size ≤ 4096) (sym c.r
 
 pub returns-clause-whole : goal.returns-clause-whole
 returns-clause-whole c = (geometry_long c.args.g.now c.request.ensures.geometry).whole ∙ ap (λ (r : Request). r.block_size) (sym c.request.ensures.same)
+
+pub returns-clause-pointers : goal.returns-clause-pointers
+returns-clause-pointers c = (geometry_long c.args.g.now c.request.ensures.geometry).pointers ∙ ap (λ (r : Request). r.block_size) (sym c.request.ensures.same)
