@@ -85,6 +85,22 @@ fn disk_is_made_or_lengthened(rt: HostRuntime) -> Result<(), Fail> {
 }
 
 #[test]
+fn disk_reaches_blocks_beyond_32_bits(rt: HostRuntime) -> Result<(), Fail> {
+    let path = "edge_host_test_sparse";
+    // 2^32 + 1,024 bytes: a place cut to 32 bits is that of block 1.
+    let mut disk = HostDisk::open(&rt, Some(path), 512, Some(8_388_610));
+    assert_eq!(rt; disk.blocks(), 8_388_610);
+    assert_eq!(rt; write_block(&mut disk, 8_388_609, &[5; 512]), Some(Ok(())));
+    for (b, byte) in [(1, 0), (8_388_608, 0), (8_388_609, 5)] {
+        let mut out = [1; 512];
+        assert_eq!(rt; read_block(&mut disk, b, &mut out), Some(Ok(())));
+        assert!(rt; out == [byte; 512], "block {b}");
+    }
+    fs::remove_file(&rt, path)?;
+    Ok(())
+}
+
+#[test]
 fn disk_over_no_file_has_no_blocks(rt: HostRuntime) {
     // The null device cannot be synced.
     for (path, flushed) in [
@@ -177,9 +193,9 @@ fn take_item<F: Folder>(
 fn make_folder(files: &impl rt::Files) -> io::Result<()> {
     fs::create_dir_all(files, "edge_host_test_folder/a")?;
     fs::create_dir(files, "edge_host_test_folder/c")?;
-    fs::write(files, "edge_host_test_folder/a/z", "in a")?;
+    fs::write(files, "edge_host_test_folder/a/z", "z in a")?;
     fs::write(files, "edge_host_test_folder/a-b", "")?;
-    fs::write(files, "edge_host_test_folder/B", "in B")?;
+    fs::write(files, "edge_host_test_folder/B", "B itself")?;
     symlink(files, "B", "edge_host_test_folder/b")
 }
 
@@ -187,7 +203,8 @@ fn make_folder(files: &impl rt::Files) -> io::Result<()> {
 fn folder_gives_what_is_in_it(rt: HostRuntime) -> Result<(), Fail> {
     let root = "edge_host_test_folder";
     let mut folder = HostFolder::new(&rt, root)?;
-    let (mut path, mut out) = ([0; 4096], [0; 9]);
+    // A file is not read to its end before the next item comes.
+    let (mut path, mut out) = ([0; 4096], [0; 3]);
     assert_eq!(rt; folder.bytes(&mut out), Err(FolderFault));
     assert_eq!(rt;
         take_item(&mut folder, &mut path, &mut out),
@@ -196,9 +213,9 @@ fn folder_gives_what_is_in_it(rt: HostRuntime) -> Result<(), Fail> {
 
     make_folder(&rt)?;
     for (name, kind, bytes) in [
-        ("B", ItemKind::File, "in B"),
+        ("B", ItemKind::File, "B i"),
         ("a", ItemKind::Directory, ""),
-        ("a/z", ItemKind::File, "in a"),
+        ("a/z", ItemKind::File, "z i"),
         ("a-b", ItemKind::File, ""),
         ("c", ItemKind::Directory, ""),
     ] {
