@@ -13,8 +13,7 @@ use Rattle.edge_base.specs.layout.Spelling.{master_in, metaroot_in}
 use Rattle.edge_disk.specs.Image.{Image}
 use Rattle.edge_image.specs.Image.{Live, live_of, live_among, reason_of, reason_of_master, reason_of_live, reason_of_counts, has_bad_imap, spells_imap, imap_block_of}
 use Rattle.edge_app.specs.Live.{live_bytes, FindsLive}
-use Rattle.edge_app.specs.Mount.{Judges, Mounts, mounted_as, reason_inline}
-use Rattle.edge_app.specs.declared.mount.Mounted.{Mounted}
+use Rattle.edge_app.specs.Mount.{Judges, Mounts, reason_inline}
 
 not_equal : (a b : ℕ) → a ≢ b → (a == b) ≡ false
 not_equal a b apart = elim (a == b) as (λ t. (a == b) ≡ t → t ≡ false) [
@@ -66,15 +65,15 @@ at_place image live (inr two) = ap (λ (n : ℕ). cond (n == 1) (image.block 1) 
 
 -- what the live metaroot's reason, or none, makes of the image
 pub judge : (g : Request) (found : Option Live) (one two new : List ℕ) (root : Metaroot) (reason : Option ℕ) → FindsLive found one two (Some root) new → reason ≡ reason_inline g root new
-    → Judges g found one two (mounted_as g reason) new
+    → Judges g found one two reason new
 judge g None one two new root reason finds is = absurd (cc)
 judge g (Some live) one two new root reason finds is =
     let same : root ≡ live.root = let e = finds.0 in cc in
-    (finds.1, ap (mounted_as g) (is ∙ ap (λ r. reason_inline g r new) same ∙ ap (reason_inline g live.root) finds.1))
+    (finds.1, is ∙ ap (λ r. reason_inline g r new) same ∙ ap (reason_inline g live.root) finds.1)
 
 mounts_by : (image : Image) (master : Master) (live : Live) (bytes : List ℕ) (reason : Option ℕ) → reason_of image ≡ reason → master_in (image.block 0) ≡ Ok master
-    → live_of master.geometry image ≡ Some live → bytes ≡ image.block live.place → Mounts image bytes (mounted_as master.geometry reason)
-mounts_by image master live bytes None is is_master is_live root = record { mounts = is; master = master; is_master = is_master; geometry = refl; live = live; is_live = is_live; root = root }
+    → live_of master.geometry image ≡ Some live → bytes ≡ image.block live.place → Mounts image master.geometry bytes reason
+mounts_by image master live bytes None is is_master is_live root = record { mounts = is; master = master; is_master = is_master; geometry = refl; live = live; is_live = is_live; metaroot = root }
 mounts_by image master live bytes (Some reason) is is_master is_live root = is
 
 -- no imap node is bad where the bitmap is inline
@@ -85,21 +84,21 @@ no_bad_imap g image root inline =
 inline_reason : (g : Request) (image : Image) (live : Live) → is_inline_of g ≡ true → reason_of_live g image (Some live) ≡ reason_inline g live.root (image.block live.place)
 inline_reason g image live inline = ap (λ b. cond (nat_lt (2 ^ 63) live.root.sequence) (Some 5) (cond b (Some 6) (reason_of_counts g live.root (image.block live.place)))) (no_bad_imap g image (image.block live.place) inline)
 
-judged_as : (image : Image) (master : Master) (found : Option Live) (told : Mounted) (bytes : List ℕ) → is_inline_of master.geometry ≡ true → master_in (image.block 0) ≡ Ok master
-    → live_of master.geometry image ≡ found → reason_of image ≡ reason_of_live master.geometry image found → Judges master.geometry found (image.block 1) (image.block 2) told bytes → Mounts image bytes told
-judged_as image master None told bytes inline is_master is_live is j = subst (Mounts image bytes) (sym j) is
+judged_as : (image : Image) (master : Master) (found : Option Live) (told : Option ℕ) (bytes : List ℕ) → is_inline_of master.geometry ≡ true → master_in (image.block 0) ≡ Ok master
+    → live_of master.geometry image ≡ found → reason_of image ≡ reason_of_live master.geometry image found → Judges master.geometry found (image.block 1) (image.block 2) told bytes → Mounts image master.geometry bytes told
+judged_as image master None told bytes inline is_master is_live is j = subst (Mounts image master.geometry bytes) (sym j) is
 judged_as image master (Some live) told bytes inline is_master is_live is j =
     let at = at_place image live (two_places _ _ live is_live) in
-    subst (Mounts image bytes) (sym (j.1 ∙ ap (λ b. mounted_as master.geometry (reason_inline master.geometry live.root b)) at))
+    subst (Mounts image master.geometry bytes) (sym (j.1 ∙ ap (reason_inline master.geometry live.root) at))
     (mounts_by image master live bytes _ (is ∙ inline_reason master.geometry image live inline) is_master is_live (j.0 ∙ at))
 
-pub judged : (image : Image) (master : Master) (told : Mounted) (bytes : List ℕ) → is_inline_of master.geometry ≡ true → 3 ≤ image.blocks → master_in (image.block 0) ≡ Ok master
+pub judged : (image : Image) (master : Master) (told : Option ℕ) (bytes : List ℕ) → is_inline_of master.geometry ≡ true → 3 ≤ image.blocks → master_in (image.block 0) ≡ Ok master
     → master.geometry.block_size ≡ image.block_size → master.geometry.blocks ≤ image.blocks
-    → Judges master.geometry (live_of master.geometry image) (image.block 1) (image.block 2) told bytes → Mounts image bytes told
+    → Judges master.geometry (live_of master.geometry image) (image.block 1) (image.block 2) told bytes → Mounts image master.geometry bytes told
 judged image master told bytes inline enough is_master same fits j = judged_as image master (live_of master.geometry image) told bytes inline is_master refl (by_live image master enough is_master same fits) j
 
 -- what was read is what the image holds
-pub judged-same : (g : Request) (a b one two new : List ℕ) (told : Mounted) → a ≡ one → b ≡ two → Judges g (live_among (metaroot_in g a) (metaroot_in g b)) a b told new
+pub judged-same : (g : Request) (a b one two new : List ℕ) (told : Option ℕ) → a ≡ one → b ≡ two → Judges g (live_among (metaroot_in g a) (metaroot_in g b)) a b told new
     → Judges g (live_among (metaroot_in g one) (metaroot_in g two)) one two told new
 judged-same g a b one two new told first second j =
     subst (λ y. Judges g (live_among (metaroot_in g one) (metaroot_in g y)) one y told new) second

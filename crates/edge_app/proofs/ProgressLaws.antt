@@ -8,7 +8,8 @@ use Rattle.std.proofs.Math.Seq.{take-add}
 use Rattle.edge_base.specs.declared.damage.Damage.{Damage}
 use Rattle.edge_base.specs.declared.node.Head.{Head}
 use Rattle.edge_app.specs.declared.session.How.{How}
-use Rattle.edge_app.specs.declared.session.How.TheVariants.{End, Source, Sink, Limit, Device, Damaged}
+use Rattle.edge_app.specs.declared.session.How.TheVariants.{End, Source, Sink, Limit, Fault}
+use Rattle.edge_model.specs.declared.ask.AskFault.TheVariants.{Device, Damaged}
 use Rattle.edge_app.specs.Script.{lines_of, onto_first_line, whole_lines, onto_whole_line, joined_lines, HoldsLines, lines_taken, line_at, asks_root, reply_with, HasReply, replies_before}
 use Rattle.edge_app.specs.Feeds.{is_line_feed, HasNoLineFeed, TakesUp}
 use Rattle.edge_io.specs.Streams.{TookPart}
@@ -122,8 +123,8 @@ holds_lines script stream ended k used inside rest count bytes = record {
 -- a turn that takes a line up has room for it
 pub is_below : (how : How) (commands lines : ℕ) → HadRoom (Some how) (nat_lt commands lines) → IsBelow how commands lines
 is_below Sink commands lines room = ltb-true commands lines room
-is_below Device commands lines room = ltb-true commands lines room
-is_below (Damaged damage) commands lines room = ltb-true commands lines room
+is_below (Fault Device) commands lines room = ltb-true commands lines room
+is_below (Fault (Damaged damage)) commands lines room = ltb-true commands lines room
 is_below End commands lines room = tt
 is_below Source commands lines room = tt
 is_below Limit commands lines room = tt
@@ -289,10 +290,10 @@ module _ (root : Result Head Damage) (script stream : List ℕ) (ended : Bool) (
       ran Limit left used_after sink_after
       (record { inside = p.inside; lines = taken_part script used_after part ∙ ap whole_lines (used_front script stream used p.split t.begun stream_after used_after t.split t.used_is) ∙ only_answered t.begun joined t.no_feed }, part)
       (t.took ∙ p.text) tt
-  ends Device stream_after left ended_after used_after sink_after other t =
-      ran Device left used_after sink_after (one_more t.line stream_after ended_after used_after t.takes, ap asks_root (is_next t.line stream_after ended_after used_after t.takes) ∙ t.asks) (t.took ∙ p.text) tt
-  ends (Damaged damage) stream_after left ended_after used_after sink_after other t =
-      ran (Damaged damage) left used_after sink_after
+  ends (Fault Device) stream_after left ended_after used_after sink_after other t =
+      ran (Fault Device) left used_after sink_after (one_more t.line stream_after ended_after used_after t.takes, ap asks_root (is_next t.line stream_after ended_after used_after t.takes) ∙ t.asks) (t.took ∙ p.text) tt
+  ends (Fault (Damaged damage)) stream_after left ended_after used_after sink_after other t =
+      ran (Fault (Damaged damage)) left used_after sink_after
       (one_more t.line stream_after ended_after used_after t.takes, ap asks_root (is_next t.line stream_after ended_after used_after t.takes) ∙ t.asks, t.damaged) (t.took ∙ p.text) tt
 
   -- the same where the source failed
@@ -321,12 +322,12 @@ module _ (root : Result Head Damage) (script stream : List ℕ) (ended : Bool) (
   ends_at_root Limit stream_after left ended_after used_after taken sink_after failed other t =
       let differs : Limit ≡ Source → ⊥ = λ e. cc in
       subst (λ (n : ℕ). Ran Limit root script left commands n before sink_after) (sym (other differs)) (ends Limit stream_after left ended_after used_after sink_after differs t)
-  ends_at_root Device stream_after left ended_after used_after taken sink_after failed other t =
-      let differs : Device ≡ Source → ⊥ = λ e. cc in
-      subst (λ (n : ℕ). Ran Device root script left commands n before sink_after) (sym (other differs)) (ends Device stream_after left ended_after used_after sink_after differs t)
-  ends_at_root (Damaged damage) stream_after left ended_after used_after taken sink_after failed other t =
-      let differs : (Damaged damage) ≡ Source → ⊥ = λ e. cc in
-      subst (λ (n : ℕ). Ran (Damaged damage) root script left commands n before sink_after) (sym (other differs)) (ends (Damaged damage) stream_after left ended_after used_after sink_after differs t)
+  ends_at_root (Fault Device) stream_after left ended_after used_after taken sink_after failed other t =
+      let differs : (Fault Device) ≡ Source → ⊥ = λ e. cc in
+      subst (λ (n : ℕ). Ran (Fault Device) root script left commands n before sink_after) (sym (other differs)) (ends (Fault Device) stream_after left ended_after used_after sink_after differs t)
+  ends_at_root (Fault (Damaged damage)) stream_after left ended_after used_after taken sink_after failed other t =
+      let differs : (Fault (Damaged damage)) ≡ Source → ⊥ = λ e. cc in
+      subst (λ (n : ℕ). Ran (Fault (Damaged damage)) root script left commands n before sink_after) (sym (other differs)) (ends (Fault (Damaged damage)) stream_after left ended_after used_after sink_after differs t)
 
   pub ends_at : (root_then : Result Head Damage) → root_then ≡ root → (how : How) (stream_after left : List ℕ) (ended_after : Bool) (used_after taken : ℕ) (sink_after : List ℕ)
       → (how ≡ Source → taken ≡ used) → ((how ≡ Source → ⊥) → taken ≡ used_after)

@@ -13,11 +13,13 @@ use Rattle.edge_image.specs.Opens.{head_of_node, OpensTo}
 use Rattle.edge_image.specs.Ready.{IsReady}
 use Rattle.edge_image.proofs.ReadyLaws.{opens_ready}
 use Rattle.edge_model.specs.Tree.{Tree}
-use Rattle.edge_app.specs.Causes.{is_run_status, is_session, CountsFor, JudgesImage, has_no_session}
-use Rattle.edge_app.specs.Mount.{IsVolume}
+use Rattle.edge_app.specs.Causes.{HasCauses, is_run_status, is_session, CountsFor, JudgesImage, has_no_session}
+use Rattle.edge_app.specs.Mount.{IsVolume, MountCount, MountTold}
 use Rattle.edge_disk.specs.State.{IsUntouched, shown_by}
 use Rattle.edge_disk.proofs.StateLaws.{untouched-twice}
-use Rattle.edge_app.specs.Report.{EndsBy}
+use Rattle.edge_app.specs.Report.{EndsBy, unserved_by, unmounted_by}
+use Rattle.edge_app.specs.declared.mount.MountFault.{MountFault}
+use Rattle.edge_app.specs.declared.mount.MountFault.TheVariants as mounts
 use Rattle.edge_app.specs.Runs.{Runs, IsUnserved, AnswersByHead, AnswersByTree}
 use Rattle.edge_app.specs.Script.{lines_of, HoldsLines}
 use Rattle.edge_app.specs.Session.{Ran}
@@ -28,17 +30,18 @@ use Rattle.edge_app.specs.declared.report.Report.{Report}
 use Rattle.edge_app.specs.declared.report.TheConstants.{DONE, WORDS, SOURCE, SINK, DEVICE, DAMAGED, MEMORY, NOT_A_VOLUME, GEOMETRY, LIMIT}
 use Rattle.edge_app.specs.declared.run_command.TheConstants.{MOST_LINES, MOST_BYTES}
 use Rattle.edge_app.specs.declared.session.How.{How}
-use Rattle.edge_app.specs.declared.session.How.TheVariants.{End, Source, Sink, Limit, Device, Damaged}
+use Rattle.edge_app.specs.declared.session.How.TheVariants.{End, Source, Sink, Limit, Fault}
+use Rattle.edge_model.specs.declared.ask.AskFault.TheVariants.{Device, Damaged}
 use Rattle.edge_app.proofs.RunLaws.{text_of_run}
 use Rattle.edge_app.proofs.SoundLaws.{SureIsShown, still_opens}
 use Rattle.edge_app.proofs.TextLaws.{nothing_taken, session_text}
 use Rattle.edge_app.proofs.TopLaws.{is_front, is_whole, is_complete, same_image, ended_by, root_then}
 
--- ---- without a session
+-- a count that stood still
+stands : {failure status : ℕ} (a b : ℕ) → (status ≡ failure → ⊥) → b ≡ a → CountsFor failure status a b
+stands a b not same = record { rose = λ e. absurd (not e); still = λ no. same }
 
--- a report without a session, by its status and its reason
-abbrev pub bare : ℕ → ℕ → Report
-bare status reason = record { status = status; reason = reason; commands = 0; taken = 0; points = 0; damage = None }
+-- ---- without a session
 
 abbrev pub HasNoSession : ℕ → Type 0
 HasNoSession n = (n ≡ DEVICE) ⊎ (n ≡ MEMORY) ⊎ (n ≡ NOT_A_VOLUME)
@@ -83,13 +86,13 @@ is_apart n (inr (inr eight)) = record {
 
 module _ (before : World) (then : DiskState) (status reason : ℕ) (is : HasNoSession status) (device : status ≡ DEVICE → Rose before.disk.faults then.faults)
     (refused : IsTrue before.disk.origin.shows → status ≡ NOT_A_VOLUME → reason_of (shown_by before.disk) ≡ Some reason) where
-  nothing : IsUnserved before (record before { disk = then }) (bare status reason)
+  nothing : IsUnserved before (record before { disk = then }) (unserved_by status reason)
   nothing = let apart = is_apart status is in record { status = apart.kind; commands = refl; taken = refl; source = refl; sink = refl }
 
   not_ready : IsTrue before.disk.origin.shows → (head : Head) → IsReady (shown_by before.disk) head → status ≡ NOT_A_VOLUME → ⊥
   not_ready shows head ready eight = let e = sym ready.mounts ∙ refused shows eight in cc
 
-  by_head : IsTrue before.disk.origin.shows → (head : Head) → IsReady (shown_by before.disk) head → AnswersByHead head before (record before { disk = then }) (bare status reason)
+  by_head : IsTrue before.disk.origin.shows → (head : Head) → IsReady (shown_by before.disk) head → AnswersByHead head before (record before { disk = then }) (unserved_by status reason)
   by_head shows head ready = record {
     front = (0, sym (append-nil before.sink.taken));
     whole = λ e. absurd ((is_apart status is).done e);
@@ -99,14 +102,14 @@ module _ (before : World) (then : DiskState) (status reason : ℕ) (is : HasNoSe
     ];
   }
 
-  by_tree : (t : Tree) (opens : OpensTo (shown_by before.disk) t) → AnswersByTree opens.master.geometry t before (record before { disk = then }) (bare status reason)
+  by_tree : (t : Tree) (opens : OpensTo (shown_by before.disk) t) → AnswersByTree opens.master.geometry t before (record before { disk = then }) (unserved_by status reason)
   by_tree t opens = record {
     front = (0, sym (append-nil before.sink.taken));
     whole = λ e. absurd ((is_apart status is).done e);
-    text = nothing_taken opens.master.geometry t before.source.left (bare status reason) before.sink.taken refl (is_apart status is).sink;
+    text = nothing_taken opens.master.geometry t before.source.left (unserved_by status reason) before.sink.taken refl (is_apart status is).sink;
   }
 
-  pub runs_unserved : SureIsShown before.disk → IsUntouched before.disk then → Runs before (record before { disk = then }) (bare status reason)
+  pub runs_unserved : SureIsShown before.disk → IsUntouched before.disk then → Runs before (record before { disk = then }) (unserved_by status reason)
   runs_unserved is_shown same =
       let apart = is_apart status is in
       record {
@@ -132,23 +135,51 @@ module _ (before : World) (then : DiskState) (status reason : ℕ) (is : HasNoSe
         };
       }
 
+-- over an image that is not mounted
+pub runs_unmounted : (before : World) (then : DiskState) (fault : MountFault) → MountCount fault before.disk.faults then.faults
+    → (IsTrue before.disk.origin.shows → MountTold fault (reason_of (shown_by before.disk))) → SureIsShown before.disk → IsUntouched before.disk then
+    → Runs before (record before { disk = then }) (unmounted_by fault)
+runs_unmounted before then mounts.Device count told is_shown same =
+    runs_unserved before then DEVICE 0 (inl refl) (λ _. count) (λ shows e. absurd (omega arith)) is_shown same
+runs_unmounted before then (mounts.NotVolume reason) count told is_shown same =
+    runs_unserved before then NOT_A_VOLUME reason (inr (inr refl)) (λ e. absurd (omega arith)) (λ shows _. told shows) is_shown same
+
+pub causes_unmounted : (before : World) (then : DiskState) (fault : MountFault) → MountCount fault before.disk.faults then.faults → then.origin ≡ before.disk.origin
+    → HasCauses before (record before { disk = then }) (unmounted_by fault)
+causes_unmounted before then mounts.Device count same = record {
+  source = stands _ _ (λ e. omega arith) refl;
+  sink = stands _ _ (λ e. omega arith) refl;
+  device = record { rose = λ _. count; still = λ no. absurd (no refl) };
+  reason = λ _. refl;
+  damage = λ _. refl;
+  origin = same;
+}
+causes_unmounted before then (mounts.NotVolume reason) count same = record {
+  source = stands _ _ (λ e. omega arith) refl;
+  sink = stands _ _ (λ e. omega arith) refl;
+  device = stands _ _ (λ e. omega arith) count;
+  reason = λ no. absurd (no refl);
+  damage = λ _. refl;
+  origin = same;
+}
+
 -- ---- a session
 
-pub met : (how : How) (r : Report) → EndsBy how r → r.status ≡ DAMAGED → (damage : Damage) × (how ≡ Damaged damage) × (r.damage ≡ Some damage)
-met (Damaged damage) r ends is = (damage, refl, ends.1)
+pub met : (how : How) (r : Report) → EndsBy how r → r.status ≡ DAMAGED → (damage : Damage) × (how ≡ Fault (Damaged damage)) × (r.damage ≡ Some damage)
+met (Fault (Damaged damage)) r ends is = (damage, refl, ends.1)
 met End r ends is = absurd (let e = ends.0 in omega arith)
 met Source r ends is = absurd (let e = ends.0 in omega arith)
 met Sink r ends is = absurd (let e = ends.0 in omega arith)
-met Device r ends is = absurd (let e = ends.0 in omega arith)
+met (Fault Device) r ends is = absurd (let e = ends.0 in omega arith)
 met Limit r ends is = absurd (let e = ends.0 in omega arith)
 
 limited : (how : How) (r : Report) → EndsBy how r → r.status ≡ LIMIT → how ≡ Limit
 limited Limit r ends is = refl
-limited (Damaged damage) r ends is = absurd (let e = ends.0 in omega arith)
+limited (Fault (Damaged damage)) r ends is = absurd (let e = ends.0 in omega arith)
 limited End r ends is = absurd (let e = ends.0 in omega arith)
 limited Source r ends is = absurd (let e = ends.0 in omega arith)
 limited Sink r ends is = absurd (let e = ends.0 in omega arith)
-limited Device r ends is = absurd (let e = ends.0 in omega arith)
+limited (Fault Device) r ends is = absurd (let e = ends.0 in omega arith)
 
 record IsSession (r : Report) : Type 0 where
   known : IsTrue (is_run_status r.status)
@@ -166,8 +197,8 @@ is_a_session : (how : How) (r : Report) → EndsBy how r → IsSession r
 is_a_session End r ends = session_at 0 r ends.0 refl false≢true (λ e. omega arith)
 is_a_session Source r ends = session_at 3 r ends.0 refl false≢true (λ e. omega arith)
 is_a_session Sink r ends = session_at 4 r ends.0 refl false≢true (λ e. omega arith)
-is_a_session Device r ends = session_at 5 r ends.0 refl false≢true (λ e. omega arith)
-is_a_session (Damaged damage) r ends = session_at 6 r ends.0 refl false≢true (λ e. omega arith)
+is_a_session (Fault Device) r ends = session_at 5 r ends.0 refl false≢true (λ e. omega arith)
+is_a_session (Fault (Damaged damage)) r ends = session_at 6 r ends.0 refl false≢true (λ e. omega arith)
 is_a_session Limit r ends = session_at 11 r ends.0 refl false≢true (λ e. omega arith)
 
 none_of_three : (n : ℕ) → (n ≡ SINK) ⊎ (n ≡ DEVICE) ⊎ (n ≡ DAMAGED) → (n ≡ SINK → ⊥) → (n ≡ DEVICE → ⊥) → (n ≡ DAMAGED → ⊥) → ⊥
@@ -177,40 +208,37 @@ none_of_three n (inr (inr e)) no_sink no_device no_damage = no_damage e
 
 below : (how : How) (r : Report) (commands : ℕ) → EndsBy how r → IsBelow how commands MOST_LINES → (r.status ≡ SINK) ⊎ (r.status ≡ DEVICE) ⊎ (r.status ≡ DAMAGED) → commands < MOST_LINES
 below Sink r commands ends less one = less
-below Device r commands ends less one = less
-below (Damaged damage) r commands ends less one = less
+below (Fault Device) r commands ends less one = less
+below (Fault (Damaged damage)) r commands ends less one = less
 below End r commands ends less one = absurd (none_of_three r.status one (λ e. let z = ends.0 in omega arith) (λ e. let z = ends.0 in omega arith) (λ e. let z = ends.0 in omega arith))
 below Source r commands ends less one = absurd (none_of_three r.status one (λ e. let z = ends.0 in omega arith) (λ e. let z = ends.0 in omega arith) (λ e. let z = ends.0 in omega arith))
 below Limit r commands ends less one = absurd (none_of_three r.status one (λ e. let z = ends.0 in omega arith) (λ e. let z = ends.0 in omega arith) (λ e. let z = ends.0 in omega arith))
 
 -- ---- counts of faults
 
-stands : {failure status : ℕ} (a b : ℕ) → (status ≡ failure → ⊥) → b ≡ a → CountsFor failure status a b
-stands a b not same = record { rose = λ e. absurd (not e); still = λ no. same }
-
 pub source_counts : (how : How) (r : Report) (a b : ℕ) → EndsBy how r → SourceCount (Some how) a b → CountsFor SOURCE r.status a b
 source_counts Source r a b ends count = record { rose = λ e. count; still = λ no. absurd (no ends.0) }
 source_counts End r a b ends count = stands a b (λ e. let z = ends.0 in omega arith) count
 source_counts Sink r a b ends count = stands a b (λ e. let z = ends.0 in omega arith) count
 source_counts Limit r a b ends count = stands a b (λ e. let z = ends.0 in omega arith) count
-source_counts Device r a b ends count = stands a b (λ e. let z = ends.0 in omega arith) count
-source_counts (Damaged damage) r a b ends count = stands a b (λ e. let z = ends.0 in omega arith) count
+source_counts (Fault Device) r a b ends count = stands a b (λ e. let z = ends.0 in omega arith) count
+source_counts (Fault (Damaged damage)) r a b ends count = stands a b (λ e. let z = ends.0 in omega arith) count
 
 pub sink_counts : (how : How) (r : Report) (a b : ℕ) → EndsBy how r → SinkCount (Some how) a b → CountsFor SINK r.status a b
 sink_counts Sink r a b ends count = record { rose = λ e. count; still = λ no. absurd (no ends.0) }
 sink_counts End r a b ends count = stands a b (λ e. let z = ends.0 in omega arith) count
 sink_counts Source r a b ends count = stands a b (λ e. let z = ends.0 in omega arith) count
 sink_counts Limit r a b ends count = stands a b (λ e. let z = ends.0 in omega arith) count
-sink_counts Device r a b ends count = stands a b (λ e. let z = ends.0 in omega arith) count
-sink_counts (Damaged damage) r a b ends count = stands a b (λ e. let z = ends.0 in omega arith) count
+sink_counts (Fault Device) r a b ends count = stands a b (λ e. let z = ends.0 in omega arith) count
+sink_counts (Fault (Damaged damage)) r a b ends count = stands a b (λ e. let z = ends.0 in omega arith) count
 
 pub device_counts : (how : How) (r : Report) (a b : ℕ) → EndsBy how r → RootCount (Some how) a b → CountsFor DEVICE r.status a b
-device_counts Device r a b ends count = record { rose = λ e. count; still = λ no. absurd (no ends.0) }
+device_counts (Fault Device) r a b ends count = record { rose = λ e. count; still = λ no. absurd (no ends.0) }
 device_counts End r a b ends count = stands a b (λ e. let z = ends.0 in omega arith) count
 device_counts Source r a b ends count = stands a b (λ e. let z = ends.0 in omega arith) count
 device_counts Sink r a b ends count = stands a b (λ e. let z = ends.0 in omega arith) count
 device_counts Limit r a b ends count = stands a b (λ e. let z = ends.0 in omega arith) count
-device_counts (Damaged damage) r a b ends count = stands a b (λ e. let z = ends.0 in omega arith) count
+device_counts (Fault (Damaged damage)) r a b ends count = stands a b (λ e. let z = ends.0 in omega arith) count
 
 -- ---- all of a session
 
@@ -220,7 +248,7 @@ module _ (before : World) (mounted then : DiskState) (source : SourceState) (sin
     (short : report.taken ≤ MOST_BYTES) (room : IsBelow how report.commands MOST_LINES) (reached : how ≡ Limit → (report.commands ≡ MOST_LINES) ⊎ (report.taken ≡ MOST_BYTES))
     (holds : IsTrue mounted.origin.shows → IsTrue before.source.tells → IsTrue before.sink.tells → how ≡ Limit → HoldsLines before.source.left report.commands report.taken ⊎ (report.taken ≡ MOST_BYTES))
     (read : IsTrue before.source.tells → how ≡ End → source.left ≡ [])
-    (damage_is : IsTrue mounted.origin.shows → (damage : Damage) → how ≡ Damaged damage → head_of g (shown_by mounted) root root_number ≡ Err damage)
+    (damage_is : IsTrue mounted.origin.shows → (damage : Damage) → how ≡ Fault (Damaged damage) → head_of g (shown_by mounted) root root_number ≡ Err damage)
     (ran : IsTrue mounted.origin.shows → IsTrue before.source.tells → IsTrue before.sink.tells
     → Ran how (head_of g (shown_by mounted) root root_number) before.source.left source.left report.commands report.taken before.sink.taken sink.taken)
     (from_source : SourceCount (Some how) before.source.faults source.faults) (from_sink : SinkCount (Some how) before.sink.faults sink.faults)
@@ -240,7 +268,7 @@ module _ (before : World) (mounted then : DiskState) (source : SourceState) (sin
     served = λ session. (volume shows).mounts;
     damaged = λ e.
         let m = met how report ends e in
-        record { g = g; root = root; volume = volume shows; damage = m.0; told_is = m.2; meets = sym (head_then shows) ∙ damage_is (shows_then shows) m.0 m.1 };
+        record { g = g; metaroot = root; volume = volume shows; damage = m.0; told_is = m.2; meets = sym (head_then shows) ∙ damage_is (shows_then shows) m.0 m.1 };
     ready = λ head ready. (
       λ e.
           let m = met how report ends e in
@@ -298,7 +326,7 @@ module _ (before : World) (mounted then : DiskState) (source : SourceState) (sin
         end = λ done tells. read tells (ended_by how report ends done);
         image = judged;
         script = λ told. record {
-          session = inl (record { g = g; root = root; volume = volume told.disk; how = how; ended = ends; ran = subst (λ h. Ran how h before.source.left source.left report.commands report.taken before.sink.taken sink.taken) (head_then told.disk) (told_ran told) });
+          session = inl (record { g = g; metaroot = root; volume = volume told.disk; how = how; ended = ends; ran = subst (λ h. Ran how h before.source.left source.left report.commands report.taken before.sink.taken sink.taken) (head_then told.disk) (told_ran told) });
           limit = λ e. holds (shows_then told.disk) told.source told.sink (limited how report ends e);
           ready = by_head_served told;
           tree = by_tree_served told;
@@ -311,9 +339,9 @@ same_report r commands taken a b = λ i. record r { commands = sym a i; taken = 
 
 -- without damage none is told
 pub undamaged : (how : How) (r : Report) → EndsBy how r → (r.status ≡ DAMAGED → ⊥) → r.damage ≡ None
-undamaged (Damaged damage) r ends not = absurd (not ends.0)
+undamaged (Fault (Damaged damage)) r ends not = absurd (not ends.0)
 undamaged End r ends not = ends.1
 undamaged Source r ends not = ends.1
 undamaged Sink r ends not = ends.1
-undamaged Device r ends not = ends.1
+undamaged (Fault Device) r ends not = ends.1
 undamaged Limit r ends not = ends.1

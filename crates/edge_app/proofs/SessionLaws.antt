@@ -1,14 +1,16 @@
 -- The lines and the replies of a session.
-use Rattle.std.proofs.Common.{◌≡◌, ℕ, zero, suc, ◌<◌, ◌++◌, ◌&&◌, Bool, cond, eqb, List, [], ◌∷◌, length, take, refl, sym, ap, ◌∙◌, subst, arith, Ok, Err}
+use Rattle.std.proofs.Common.{◌≡◌, ℕ, zero, suc, ◌<◌, ◌++◌, ◌&&◌, Bool, cond, eqb, List, [], ◌∷◌, length, take, refl, sym, ap, ◌∙◌, subst, arith, Ok, Err, Some}
 use Rattle.std.specs.Str.{bytes_eq}
 use Rattle.std.specs.Prelude.{Result}
 use Rattle.edge_base.specs.declared.damage.Damage.{Damage}
 use Rattle.edge_base.specs.declared.node.Head.{Head}
-use Rattle.edge_app.specs.declared.volume.VolumeFault.TheVariants as faults
+use Rattle.edge_model.specs.declared.ask.AskFault.{AskFault}
+use Rattle.edge_model.specs.declared.ask.AskFault.TheVariants.{Device, Damaged}
+use Rattle.edge_app.specs.declared.session.How.TheVariants.{Fault}
 use Rattle.edge_app.specs.Script.{asks_root, stat_line, stat_reply, bad_reply, reply_with, HasReply}
 use Rattle.edge_app.specs.Feeds.{kept_part, TakesLine}
 use Rattle.edge_io.specs.Streams.{TookPart}
-use Rattle.edge_app.specs.Turn.{AnswersTo, AnswersLine, AnswersPart, LeavesLine, MeetsDamage}
+use Rattle.edge_app.specs.Turn.{AnswersTo, AnswersLine, AnswersPart, LeavesLine, StopsAtDamage, Turns}
 
 -- a front that is longer than a text differs from it where the whole does
 eq-front : (room : ℕ) (line text : List ℕ) → length text < room → bytes_eq (take room line) text ≡ bytes_eq line text
@@ -32,8 +34,8 @@ has_reply-kept (Err damage) line h = sym (asks_root-kept line) ∙ h
 
 -- what was answered to what is kept of a line was answered to the line
 module _ (root : Result Head Damage) (before after kept : List ℕ) (ended : Bool) (used used_after : ℕ) (line : TakesLine before after kept ended used used_after) where
-  pub meets_damage : (damage : Damage) (sink : List ℕ) → AnswersTo root kept (Err (faults.Damaged damage)) → MeetsDamage damage root before after ended used used_after sink sink
-  meets_damage damage sink told = record {
+  stops_at_damage : (damage : Damage) (sink : List ℕ) → AnswersTo root kept (Err (Damaged damage)) → StopsAtDamage damage root before after ended used used_after sink sink
+  stops_at_damage damage sink told = record {
     line = line.line;
     takes = line.takes;
     asks = sym (ap asks_root line.kept_is ∙ asks_root-kept line.line) ∙ told.0;
@@ -41,13 +43,18 @@ module _ (root : Result Head Damage) (before after kept : List ℕ) (ended : Boo
     took = refl;
   }
 
-  pub leaves_line : (sink : List ℕ) → AnswersTo root kept (Err faults.Device) → LeavesLine before after ended used used_after sink sink
+  leaves_line : (sink : List ℕ) → AnswersTo root kept (Err Device) → LeavesLine before after ended used used_after sink sink
   leaves_line sink told = record {
     line = line.line;
     takes = line.takes;
     asks = sym (ap asks_root line.kept_is ∙ asks_root-kept line.line) ∙ told;
     took = refl;
   }
+
+  pub stops_at_fault : (fault : AskFault) (left sink : List ℕ) (ended_before : Bool) → AnswersTo root kept (Err fault)
+      → Turns (Some (Fault fault)) root before after left ended_before ended used used_after sink sink
+  stops_at_fault Device left sink ended_before told = leaves_line sink told
+  stops_at_fault (Damaged damage) left sink ended_before told = stops_at_damage damage sink told
 
   pub answers_line : (reply sink sink_after : List ℕ) → AnswersTo root kept (Ok reply) → sink_after ≡ sink ++ reply → AnswersLine root before after ended used used_after sink sink_after
   answers_line reply sink sink_after told took = record {

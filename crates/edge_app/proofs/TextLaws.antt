@@ -14,7 +14,8 @@ use Rattle.edge_image.specs.Opens.{head_of_node, OpensTo}
 use Rattle.edge_image.proofs.ReadyLaws.{opens_ready}
 use Rattle.edge_app.specs.declared.report.Report.{Report}
 use Rattle.edge_app.specs.declared.session.How.{How}
-use Rattle.edge_app.specs.declared.session.How.TheVariants.{End, Source, Sink, Limit, Device, Damaged}
+use Rattle.edge_app.specs.declared.session.How.TheVariants.{End, Source, Sink, Limit, Fault}
+use Rattle.edge_model.specs.declared.ask.AskFault.TheVariants.{Device, Damaged}
 use Rattle.edge_app.specs.Mount.{IsVolume}
 use Rattle.edge_io.specs.Streams.{TookPart}
 use Rattle.edge_app.specs.Report.{EndsBy}
@@ -75,16 +76,16 @@ module _ (g : Request) (t : Tree) (node : Node) (is : t 2 ≡ Some node) where
       all_of End r ends ran apart = ran.replies
       all_of Source r ends ran apart = ran.replies
       all_of Limit r ends ran apart = ran.replies
-      all_of Device r ends ran apart = ran.replies
-      all_of (Damaged damage) r ends ran apart = ran.replies
+      all_of (Fault Device) r ends ran apart = ran.replies
+      all_of (Fault (Damaged damage)) r ends ran apart = ran.replies
       all_of Sink r ends ran apart = absurd (apart ends.0)
 
       part_of : (how : How) (r : Report) → EndsBy how r → Ran how (Ok (head_of_node g t 2 node)) script left k taken before after → r.status ≡ 4 → TookBeyond g t script k before after
       part_of End r ends ran four = absurd (let e = ends.0 in omega arith)
       part_of Source r ends ran four = absurd (let e = ends.0 in omega arith)
       part_of Limit r ends ran four = absurd (let e = ends.0 in omega arith)
-      part_of Device r ends ran four = absurd (let e = ends.0 in omega arith)
-      part_of (Damaged damage) r ends ran four = absurd (let e = ends.0 in omega arith)
+      part_of (Fault Device) r ends ran four = absurd (let e = ends.0 in omega arith)
+      part_of (Fault (Damaged damage)) r ends ran four = absurd (let e = ends.0 in omega arith)
       part_of Sink r ends ran four = part_answered script k before after ran.answered.inside ran.replies
 
 -- a session over an image that opens to a tree

@@ -15,11 +15,12 @@ use Rattle.edge_disk.specs.Disk.{DiskState}
 use Rattle.edge_io.specs.Streams.{TookPart}
 use Rattle.edge_app.specs.Report.{EndsBy}
 use Rattle.edge_app.specs.declared.report.Report.{Report}
-use Rattle.edge_app.specs.Script.{lines_of, onto_first_line, whole_lines, onto_whole_line, IsInLimits, line_at, reply_to, replies_to, reply_with, replies_before}
+use Rattle.edge_app.specs.Script.{lines_of, onto_first_line, whole_lines, onto_whole_line, FitsSession, line_at, reply_to, replies_to, reply_with, replies_before}
 use Rattle.edge_app.specs.Session.{Ran}
 use Rattle.edge_app.proofs.ProgressLaws.{taken_part}
 use Rattle.edge_app.specs.declared.session.How.{How}
-use Rattle.edge_app.specs.declared.session.How.TheVariants.{End, Source, Sink, Limit, Device, Damaged}
+use Rattle.edge_app.specs.declared.session.How.TheVariants.{End, Source, Sink, Limit, Fault}
+use Rattle.edge_model.specs.declared.ask.AskFault.TheVariants.{Device, Damaged}
 
 -- ---- the root of a ready image
 
@@ -41,7 +42,7 @@ ready_root image g root head ready volume =
     let master : ready.master ≡ volume.master = let e = sym ready.is_master ∙ volume.is_master in cc in
     let geometry : ready.master.geometry ≡ g = ap (λ (m : Master). m.geometry) master ∙ sym volume.geometry in
     let live : ready.live ≡ volume.live = let e = sym ready.is_live ∙ ap (λ (r : Request). live_of r image) geometry ∙ volume.is_live in cc in
-    let bytes : image.block ready.live.place ≡ root = ap (λ (l : Live). image.block l.place) live ∙ sym volume.root in
+    let bytes : image.block ready.live.place ≡ root = ap (λ (l : Live). image.block l.place) live ∙ sym volume.metaroot in
     let place : place_of ready.master.geometry (image.block ready.live.place) root_number ≡ Ok ready.place =
     used_is_place ready.master.geometry (image.block ready.live.place) root_number ready.place ready.one_place in
     sym (ap (λ (r : Request). head_of r image (image.block ready.live.place) root_number) geometry ∙ ap (λ b. head_of g image b root_number) bytes)
@@ -87,8 +88,8 @@ front_of : (how : How) (head : Head) (script left : List ℕ) (k taken : ℕ) (b
 front_of End head script left k taken before after ran = first_lines head script k before after ran.replies
 front_of Source head script left k taken before after ran = first_lines head script k before after ran.replies
 front_of Limit head script left k taken before after ran = first_lines head script k before after ran.replies
-front_of Device head script left k taken before after ran = first_lines head script k before after ran.replies
-front_of (Damaged damage) head script left k taken before after ran = first_lines head script k before after ran.replies
+front_of (Fault Device) head script left k taken before after ran = first_lines head script k before after ran.replies
+front_of (Fault (Damaged damage)) head script left k taken before after ran = first_lines head script k before after ran.replies
 front_of Sink head script left k taken before after ran = first_lines_and_part head script k before after ran.answered.inside ran.replies
 
 pub is_front : (image image_then : Image) → image_then ≡ image → (g : Request) (root : List ℕ) (head : Head) → IsReady image head → IsVolume image g root → (how : How) (script left : List ℕ) (k taken : ℕ) (before after : List ℕ)
@@ -118,8 +119,8 @@ pub ended_by : (how : How) (r : Report) → EndsBy how r → r.status ≡ 0 → 
 ended_by End r ends done = refl
 ended_by Source r ends done = absurd (let e = ends.0 in omega arith)
 ended_by Sink r ends done = absurd (let e = ends.0 in omega arith)
-ended_by Device r ends done = absurd (let e = ends.0 in omega arith)
-ended_by (Damaged damage) r ends done = absurd (let e = ends.0 in omega arith)
+ended_by (Fault Device) r ends done = absurd (let e = ends.0 in omega arith)
+ended_by (Fault (Damaged damage)) r ends done = absurd (let e = ends.0 in omega arith)
 ended_by Limit r ends done = absurd (let e = ends.0 in omega arith)
 
 -- ---- a script within the limits is answered whole
@@ -147,7 +148,7 @@ fewer_whole (x ∷ script) (suc n) below =
       | false ↦ one_byte x (whole_lines (take n script)) (lines_of script) rest
     ]
 
-not_limited : (head : Head) (script left : List ℕ) (k taken : ℕ) (before after : List ℕ) → IsInLimits script → (k ≡ 4294967295) ⊎ (taken ≡ 1099511627776) → Ran Limit (Ok head) script left k taken before after → ⊥
+not_limited : (head : Head) (script left : List ℕ) (k taken : ℕ) (before after : List ℕ) → FitsSession script → (k ≡ 4294967295) ⊎ (taken ≡ 1099511627776) → Ran Limit (Ok head) script left k taken before after → ⊥
 not_limited head script left k taken before after within reached ran =
     let part : taken < length script = ran.answered.1 in
     let few = within.few in
@@ -161,19 +162,19 @@ not_limited head script left k taken before after within reached ran =
       | inr bytes ↦ omega arith
     ]
 
-all_of : (how : How) (head : Head) (script left : List ℕ) (k taken : ℕ) (before after : List ℕ) (r : Report) → EndsBy how r → IsInLimits script
-    → (how ≡ Source → ⊥) → (how ≡ Sink → ⊥) → (how ≡ Device → ⊥) → (how ≡ Limit → (k ≡ 4294967295) ⊎ (taken ≡ 1099511627776))
+all_of : (how : How) (head : Head) (script left : List ℕ) (k taken : ℕ) (before after : List ℕ) (r : Report) → EndsBy how r → FitsSession script
+    → (how ≡ Source → ⊥) → (how ≡ Sink → ⊥) → (how ≡ (Fault Device) → ⊥) → (how ≡ Limit → (k ≡ 4294967295) ⊎ (taken ≡ 1099511627776))
     → Ran how (Ok head) script left k taken before after → (r.status ≡ 0) ⊎ (r.status ≡ 7)
 all_of End head script left k taken before after r ends within source sink device limit ran = inl ends.0
 all_of Source head script left k taken before after r ends within source sink device limit ran = absurd (source refl)
 all_of Sink head script left k taken before after r ends within source sink device limit ran = absurd (sink refl)
-all_of Device head script left k taken before after r ends within source sink device limit ran = absurd (device refl)
-all_of (Damaged damage) head script left k taken before after r ends within source sink device limit ran = absurd (let e = ran.answered.2 in cc)
+all_of (Fault Device) head script left k taken before after r ends within source sink device limit ran = absurd (device refl)
+all_of (Fault (Damaged damage)) head script left k taken before after r ends within source sink device limit ran = absurd (let e = ran.answered.2 in cc)
 all_of Limit head script left k taken before after r ends within source sink device limit ran = absurd (not_limited head script left k taken before after within (limit refl) ran)
 
 pub is_complete : (image image_then : Image) → image_then ≡ image → (g : Request) (root : List ℕ) (head : Head) → IsReady image head → IsVolume image g root → (how : How) (script left : List ℕ) (k taken : ℕ) (before after : List ℕ)
-    (r : Report) → EndsBy how r → IsInLimits script
-    → (how ≡ Source → ⊥) → (how ≡ Sink → ⊥) → (how ≡ Device → ⊥) → (how ≡ Limit → (k ≡ 4294967295) ⊎ (taken ≡ 1099511627776))
+    (r : Report) → EndsBy how r → FitsSession script
+    → (how ≡ Source → ⊥) → (how ≡ Sink → ⊥) → (how ≡ (Fault Device) → ⊥) → (how ≡ Limit → (k ≡ 4294967295) ⊎ (taken ≡ 1099511627776))
     → Ran how (head_of g image_then root root_number) script left k taken before after → (r.status ≡ 0) ⊎ (r.status ≡ 7)
 is_complete image image_then same g root head ready volume how script left k taken before after r ends within source sink device limit ran =
     all_of how head script left k taken before after r ends within source sink device limit

@@ -7,7 +7,7 @@ use Rattle.edge_disk.specs.Image.{Image}
 use Rattle.edge_image.specs.Image.{reason_of}
 use Rattle.edge_image.specs.Ready.{IsReady}
 use Rattle.edge_words.specs.Words.{Word}
-use Rattle.edge_words.specs.Orders.{Asked, Spells}
+use Rattle.edge_words.specs.Orders.{Wanted, Spells}
 use Rattle.edge_app.specs.Orders.{AsksRun, AsksFormat, AsksNothing, IsUnfit}
 use Rattle.edge_app.specs.Report.{MeetsDamage}
 use Rattle.edge_app.specs.World.{World}
@@ -58,7 +58,7 @@ pub record HasStatus (words : List Word) (blocks status : ℕ) : Type 0 where
   pub volume_is_unfit : (status ≡ GEOMETRY) ↔ AsksUnfit words blocks
   pub run_alone : IsTrue (is_run_only status) → AsksRun words
   -- the words ask for something, or for nothing
-  pub decided : AsksNothing words ⊎ ((asked : Asked) × Spells words asked)
+  pub decided : AsksNothing words ⊎ ((wanted : Wanted) × Spells words wanted)
 
 -- ---- by faults
 

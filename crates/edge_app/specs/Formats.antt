@@ -1,5 +1,5 @@
 -- What `format IMAGE` promises: the disk becomes a fresh volume at the clock's next moment.
-use Rattle.std.specs.Prelude.{◌≡◌, ◌≢◌, ◌⊎◌, ◌↔◌, ℕ, IsTrue, List, ◌++◌, None, codes, decimal}
+use Rattle.std.specs.Prelude.{◌≡◌, ◌≢◌, ◌⊎◌, ◌↔◌, ℕ, IsTrue, List, ◌++◌, codes, decimal}
 use Rattle.edge_base.specs.outside.Faults.{Rose}
 use Rattle.edge_base.specs.declared.geometry.Request.{Request}
 use Rattle.edge_base.specs.layout.Places.{allocable_of}
@@ -11,6 +11,7 @@ use Rattle.edge_format.specs.Nodes.{IsBeside}
 use Rattle.edge_format.specs.Cut.{IsOldOrFresh}
 use Rattle.edge_app.specs.Causes.{is_format_status}
 use Rattle.edge_app.specs.Orders.{IsUnfit}
+use Rattle.edge_app.specs.Report.{unserved_by}
 use Rattle.edge_app.specs.World.{World}
 use Rattle.edge_app.specs.declared.report.Report.{Report}
 use Rattle.edge_app.specs.declared.report.TheConstants.{DONE, SINK, DEVICE, GEOMETRY}
@@ -37,7 +38,7 @@ pub record MakesVolume (g : Request) (before after : World) (report : Report) : 
 
 pub record Formats (g : Request) (before after : World) (report : Report) : Type 0 where
   pub status : IsTrue (is_format_status report.status)
-  pub none : report ≡ record { status = report.status; reason = 0; commands = 0; taken = 0; points = 0; damage = None }
+  pub none : report ≡ unserved_by report.status 0
   pub unfit : (report.status ≡ GEOMETRY) ↔ IsUnfit g before.disk.origin.blocks
   pub source : after.source.left ≡ before.source.left
   -- at DONE its line is printed, at SINK a part of it, and else nothing
@@ -49,4 +50,5 @@ pub record Formats (g : Request) (before after : World) (report : Report) : Type
   pub volume : report.status ≢ GEOMETRY → MakesVolume g before after report
   pub beside : Keeps (IsBeside g) before.disk after.disk
   -- without a fault of the sink or the disk, a geometry that fits is formatted
-  pub complete : (IsUnfit g before.disk.origin.blocks → ⊥) → (Rose before.sink.faults after.sink.faults → ⊥) → (Rose before.disk.faults after.disk.faults → ⊥) → report.status ≡ DONE
+  pub complete : (IsUnfit g before.disk.origin.blocks → ⊥) → (Rose before.sink.faults after.sink.faults → ⊥)
+      → (Rose before.disk.faults after.disk.faults → ⊥) → report.status ≡ DONE

@@ -1,11 +1,12 @@
 -- What `edge` promises: a cause for each status, and for each command what it does.
-use Rattle.std.specs.Prelude.{◌≡◌, List, None}
+use Rattle.std.specs.Prelude.{◌≡◌, List}
 use Rattle.edge_disk.specs.State.{IsUntouched}
 use Rattle.edge_words.specs.Words.{Word}
-use Rattle.edge_words.specs.Orders.{Asked, Run, Format, Spells}
+use Rattle.edge_words.specs.Orders.{Wanted, Run, Format, Spells}
 use Rattle.edge_app.specs.Causes.{HasCauses, HasStatus}
 use Rattle.edge_app.specs.Formats.{Formats}
 use Rattle.edge_app.specs.Orders.{AsksNothing}
+use Rattle.edge_app.specs.Report.{unserved_by}
 use Rattle.edge_app.specs.Runs.{Runs}
 use Rattle.edge_app.specs.World.{World}
 use Rattle.edge_app.specs.declared.report.Report.{Report}
@@ -13,14 +14,14 @@ use Rattle.edge_app.specs.declared.report.TheConstants.{WORDS}
 
 -- words that spell no command do nothing
 pub record DoesNothing (before after : World) (report : Report) : Type 0 where
-  pub report_is : report ≡ record { status = WORDS; reason = 0; commands = 0; taken = 0; points = 0; damage = None }
+  pub report_is : report ≡ unserved_by WORDS 0
   pub source : after.source ≡ before.source
   pub sink : after.sink ≡ before.sink
   pub clock : after.clock ≡ before.clock
   pub disk : IsUntouched before.disk after.disk
 
 -- what each command does
-abbrev pub Does : Asked → World → World → Report → Type 0
+abbrev pub Does : Wanted → World → World → Report → Type 0
 Does (Run image block_size) before after report = Runs before after report
 Does (Format image g) before after report = Formats g before after report
 
@@ -28,4 +29,4 @@ pub record Promise (words : List Word) (before after : World) (report : Report) 
   pub status : HasStatus words before.disk.origin.blocks report.status
   pub causes : HasCauses before after report
   pub nothing : AsksNothing words → DoesNothing before after report
-  pub command : (asked : Asked) → Spells words asked → Does asked before after report
+  pub command : (wanted : Wanted) → Spells words wanted → Does wanted before after report

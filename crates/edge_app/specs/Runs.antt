@@ -8,7 +8,7 @@ use Rattle.edge_image.specs.Ready.{IsReady}
 use Rattle.edge_model.specs.Tree.{Tree}
 use Rattle.edge_app.specs.Causes.{is_run_status, has_no_session, JudgesImage, MeetsNoFault}
 use Rattle.edge_app.specs.Report.{Served, Unserved}
-use Rattle.edge_app.specs.Script.{HoldsLines, lines_of, replies_to, IsInLimits}
+use Rattle.edge_app.specs.Script.{HoldsLines, lines_of, replies_to, FitsSession}
 use Rattle.edge_app.specs.Trees.{run_text, TookText}
 use Rattle.edge_app.specs.World.{World, TellsBytes}
 use Rattle.edge_app.specs.declared.report.Report.{Report}
@@ -35,7 +35,7 @@ pub record AnswersByHead (head : Head) (before after : World) (report : Report) 
   pub front : (n : ℕ) × (after.sink.taken ≡ before.sink.taken ++ take n (replies_to head (lines_of before.source.left)))
   pub whole : report.status ≡ DONE → after.sink.taken ≡ before.sink.taken ++ replies_to head (lines_of before.source.left)
   -- without a fault and within the limits the script is answered whole, where there is memory
-  pub complete : IsInLimits before.source.left → MeetsNoFault before after → (report.status ≡ DONE) ⊎ (report.status ≡ MEMORY)
+  pub complete : FitsSession before.source.left → MeetsNoFault before after → (report.status ≡ DONE) ⊎ (report.status ≡ MEMORY)
 
 -- the replies are those of the model's run over the tree
 pub record AnswersByTree (g : Request) (t : Tree) (before after : World) (report : Report) : Type 0 where

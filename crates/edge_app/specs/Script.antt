@@ -6,6 +6,7 @@ use Rattle.edge_base.specs.declared.damage.Damage.{Damage}
 use Rattle.edge_base.specs.declared.node.Head.{Head}
 use Rattle.edge_base.specs.declared.node.NodeType.{NodeType}
 use Rattle.edge_base.specs.declared.node.NodeType.TheVariants.{File, Directory}
+use Rattle.edge_app.specs.declared.run_command.TheConstants.{MOST_LINES, MOST_BYTES}
 
 -- ---- lines
 
@@ -48,9 +49,9 @@ pub record HoldsLines (script : List ℕ) (k taken : ℕ) : Type 0 where
   pub bytes : (take taken script ≡ joined_lines (take k (lines_of script))) ⊎ ((k ≡ length (lines_of script)) × (taken ≡ length script))
 
 -- a script that a session answers whole
-pub record IsInLimits (script : List ℕ) : Type 0 where
-  pub few : length (lines_of script) ≤ 4294967295
-  pub short : length script ≤ 1099511627776
+pub record FitsSession (script : List ℕ) : Type 0 where
+  pub few : length (lines_of script) ≤ MOST_LINES
+  pub short : length script ≤ MOST_BYTES
 
 -- ---- replies
 

@@ -3,7 +3,8 @@ use Rattle.std.specs.Prelude.{◌≡◌, ◌<◌, ◌≤◌, ℕ, ◌+◌, Bool,
 use Rattle.edge_base.specs.declared.damage.Damage.{Damage}
 use Rattle.edge_base.specs.declared.node.Head.{Head}
 use Rattle.edge_app.specs.declared.session.How.{How}
-use Rattle.edge_app.specs.declared.session.How.TheVariants.{End, Source, Sink, Limit, Device, Damaged}
+use Rattle.edge_app.specs.declared.session.How.TheVariants.{End, Source, Sink, Limit, Fault}
+use Rattle.edge_model.specs.declared.ask.AskFault.TheVariants.{Device, Damaged}
 use Rattle.edge_io.specs.Streams.{TookPart}
 use Rattle.edge_app.specs.Feeds.{HasNoLineFeed}
 use Rattle.edge_app.specs.Script.{lines_of, HoldsLines, lines_taken, line_at, asks_root, HasReply, reply_with, replies_before}
@@ -25,8 +26,8 @@ AnsweredLines End root script commands taken = (commands ≡ length (lines_of sc
 AnsweredLines Source root script commands taken = TookAnswered script commands taken true × HoldsLines script commands taken
 AnsweredLines Limit root script commands taken = TookAnswered script commands taken false × (taken < length script)
 AnsweredLines Sink root script commands taken = TookOneMore script commands taken
-AnsweredLines Device root script commands taken = TookOneMore script commands taken × (asks_root (line_at script commands) ≡ true)
-AnsweredLines (Damaged damage) root script commands taken =
+AnsweredLines (Fault Device) root script commands taken = TookOneMore script commands taken × (asks_root (line_at script commands) ≡ true)
+AnsweredLines (Fault (Damaged damage)) root script commands taken =
     TookOneMore script commands taken × (asks_root (line_at script commands) ≡ true) × (root ≡ Err damage)
 
 -- What a sink that held these bytes has taken: the replies to the lines answered, and where it failed a part of the next.
@@ -35,8 +36,7 @@ TookReplies Sink root script commands before after = TookPart (reply_with root (
 TookReplies End root script commands before after = after ≡ before ++ replies_before root script commands
 TookReplies Source root script commands before after = after ≡ before ++ replies_before root script commands
 TookReplies Limit root script commands before after = after ≡ before ++ replies_before root script commands
-TookReplies Device root script commands before after = after ≡ before ++ replies_before root script commands
-TookReplies (Damaged damage) root script commands before after = after ≡ before ++ replies_before root script commands
+TookReplies (Fault fault) root script commands before after = after ≡ before ++ replies_before root script commands
 
 -- What a source that failed had given past the lines taken is no whole line.
 pub record GaveNoLine (script left : List ℕ) (taken : ℕ) : Type 0 where
@@ -49,8 +49,7 @@ GaveNoMore Source script left taken = GaveNoLine script left taken
 GaveNoMore End script left taken = Unit {0}
 GaveNoMore Sink script left taken = Unit {0}
 GaveNoMore Limit script left taken = Unit {0}
-GaveNoMore Device script left taken = Unit {0}
-GaveNoMore (Damaged damage) script left taken = Unit {0}
+GaveNoMore (Fault fault) script left taken = Unit {0}
 
 -- all of this
 pub record Ran (how : How) (root : Result Head Damage) (script left : List ℕ) (commands taken : ℕ) (before after : List ℕ) : Type 0 where

@@ -4,9 +4,9 @@ use Rattle.edge_base.specs.outside.Faults.{Rose}
 use Rattle.edge_base.specs.declared.damage.Damage.{Damage}
 use Rattle.edge_base.specs.declared.node.Head.{Head}
 use Rattle.edge_app.specs.declared.session.How.{How}
-use Rattle.edge_app.specs.declared.session.How.TheVariants.{End, Source, Sink, Limit, Device, Damaged}
-use Rattle.edge_app.specs.declared.volume.VolumeFault.{VolumeFault}
-use Rattle.edge_app.specs.declared.volume.VolumeFault.TheVariants as faults
+use Rattle.edge_app.specs.declared.session.How.TheVariants.{End, Source, Sink, Limit, Fault}
+use Rattle.edge_model.specs.declared.ask.AskFault.TheVariants.{Device, Damaged}
+use Rattle.edge_model.specs.declared.ask.AskFault.{AskFault}
 use Rattle.edge_app.specs.Script.{lines_of, joined_lines, line_at, asks_root, HasReply, reply_with, replies_before}
 use Rattle.edge_app.specs.Feeds.{HasNoLineFeed, TakesUp}
 use Rattle.edge_io.specs.Streams.{TookPart}
@@ -19,8 +19,7 @@ SourceCount (Some Source) before after = Rose before after
 SourceCount (Some End) before after = after ≡ before
 SourceCount (Some Sink) before after = after ≡ before
 SourceCount (Some Limit) before after = after ≡ before
-SourceCount (Some Device) before after = after ≡ before
-SourceCount (Some (Damaged damage)) before after = after ≡ before
+SourceCount (Some (Fault fault)) before after = after ≡ before
 SourceCount None before after = after ≡ before
 
 -- that of the sink's
@@ -29,18 +28,17 @@ SinkCount (Some Sink) before after = Rose before after
 SinkCount (Some End) before after = after ≡ before
 SinkCount (Some Source) before after = after ≡ before
 SinkCount (Some Limit) before after = after ≡ before
-SinkCount (Some Device) before after = after ≡ before
-SinkCount (Some (Damaged damage)) before after = after ≡ before
+SinkCount (Some (Fault fault)) before after = after ≡ before
 SinkCount None before after = after ≡ before
 
 -- and that below the root's reader
 abbrev pub RootCount : Option How → ℕ → ℕ → Type 0
-RootCount (Some Device) before after = Rose before after
+RootCount (Some (Fault Device)) before after = Rose before after
 RootCount (Some End) before after = after ≡ before
 RootCount (Some Source) before after = after ≡ before
 RootCount (Some Sink) before after = after ≡ before
 RootCount (Some Limit) before after = after ≡ before
-RootCount (Some (Damaged damage)) before after = after ≡ before
+RootCount (Some (Fault (Damaged damage))) before after = after ≡ before
 RootCount None before after = after ≡ before
 
 -- ---- room for a further line
@@ -49,8 +47,7 @@ RootCount None before after = after ≡ before
 abbrev pub HadRoom : Option How → Bool → Type 0
 HadRoom None has_room = has_room ≡ true
 HadRoom (Some Sink) has_room = has_room ≡ true
-HadRoom (Some Device) has_room = has_room ≡ true
-HadRoom (Some (Damaged damage)) has_room = has_room ≡ true
+HadRoom (Some (Fault fault)) has_room = has_room ≡ true
 HadRoom (Some End) has_room = Unit {0}
 HadRoom (Some Source) has_room = Unit {0}
 HadRoom (Some Limit) has_room = Unit {0}
@@ -58,30 +55,31 @@ HadRoom (Some Limit) has_room = Unit {0}
 -- and so a session that ends with a line that was not answered has answered fewer than it may
 abbrev pub IsBelow : How → ℕ → ℕ → Type 0
 IsBelow Sink commands lines = commands < lines
-IsBelow Device commands lines = commands < lines
-IsBelow (Damaged damage) commands lines = commands < lines
+IsBelow (Fault fault) commands lines = commands < lines
 IsBelow End commands lines = Unit {0}
 IsBelow Source commands lines = Unit {0}
 IsBelow Limit commands lines = Unit {0}
 
 -- ---- an answer to a line
 
-abbrev pub AnswersTo : Result Head Damage → List ℕ → Result (List ℕ) VolumeFault → Type 0
+abbrev pub AnswersTo : Result Head Damage → List ℕ → Result (List ℕ) AskFault → Type 0
 AnswersTo root line (Ok reply) = HasReply root line × (reply ≡ reply_with root line)
-AnswersTo root line (Err (faults.Damaged damage)) = (asks_root line ≡ true) × (root ≡ Err damage)
-AnswersTo root line (Err faults.Device) = asks_root line ≡ true
+AnswersTo root line (Err (Damaged damage)) = (asks_root line ≡ true) × (root ≡ Err damage)
+AnswersTo root line (Err Device) = asks_root line ≡ true
 
 -- ---- a turn
 
 -- a line was taken up, and answered
-pub record AnswersLine (root : Result Head Damage) (stream stream_after : List ℕ) (ended_after : Bool) (used used_after : ℕ) (sink sink_after : List ℕ) : Type 0 where
+pub record AnswersLine (root : Result Head Damage) (stream stream_after : List ℕ) (ended_after : Bool) (used used_after : ℕ)
+    (sink sink_after : List ℕ) : Type 0 where
   pub line : List ℕ
   pub takes : TakesUp line stream stream_after ended_after used used_after
   pub has_reply : HasReply root line
   pub took : sink_after ≡ sink ++ reply_with root line
 
 -- a line was taken up, and a part of its reply was taken
-pub record AnswersPart (root : Result Head Damage) (stream stream_after : List ℕ) (ended_after : Bool) (used used_after : ℕ) (sink sink_after : List ℕ) : Type 0 where
+pub record AnswersPart (root : Result Head Damage) (stream stream_after : List ℕ) (ended_after : Bool) (used used_after : ℕ)
+    (sink sink_after : List ℕ) : Type 0 where
   pub line : List ℕ
   pub takes : TakesUp line stream stream_after ended_after used used_after
   pub part : TookPart (reply_with root line) sink sink_after
@@ -94,7 +92,8 @@ pub record LeavesLine (stream stream_after : List ℕ) (ended_after : Bool) (use
   pub took : sink_after ≡ sink
 
 -- the same, since the root is damaged
-pub record MeetsDamage (damage : Damage) (root : Result Head Damage) (stream stream_after : List ℕ) (ended_after : Bool) (used used_after : ℕ) (sink sink_after : List ℕ) : Type 0 where
+pub record StopsAtDamage (damage : Damage) (root : Result Head Damage) (stream stream_after : List ℕ) (ended_after : Bool) (used used_after : ℕ)
+    (sink sink_after : List ℕ) : Type 0 where
   pub line : List ℕ
   pub takes : TakesUp line stream stream_after ended_after used used_after
   pub asks : asks_root line ≡ true
@@ -127,13 +126,18 @@ pub record FindsEnd (stream left : List ℕ) (used used_after : ℕ) (sink sink_
 
 -- what a turn did, by what it told
 abbrev pub Turns : Option How → Result Head Damage → List ℕ → List ℕ → List ℕ → Bool → Bool → ℕ → ℕ → List ℕ → List ℕ → Type 0
-Turns None root stream stream_after left ended ended_after used used_after sink sink_after = AnswersLine root stream stream_after ended_after used used_after sink sink_after
+Turns None root stream stream_after left ended ended_after used used_after sink sink_after =
+    AnswersLine root stream stream_after ended_after used used_after sink sink_after
 Turns (Some End) root stream stream_after left ended ended_after used used_after sink sink_after = FindsEnd stream left used used_after sink sink_after
 Turns (Some Source) root stream stream_after left ended ended_after used used_after sink sink_after = FailsBegun ended stream left sink sink_after
-Turns (Some Sink) root stream stream_after left ended ended_after used used_after sink sink_after = AnswersPart root stream stream_after ended_after used used_after sink sink_after
-Turns (Some Limit) root stream stream_after left ended ended_after used used_after sink sink_after = LeavesMore stream stream_after used used_after sink sink_after
-Turns (Some Device) root stream stream_after left ended ended_after used used_after sink sink_after = LeavesLine stream stream_after ended_after used used_after sink sink_after
-Turns (Some (Damaged damage)) root stream stream_after left ended ended_after used used_after sink sink_after = MeetsDamage damage root stream stream_after ended_after used used_after sink sink_after
+Turns (Some Sink) root stream stream_after left ended ended_after used used_after sink sink_after =
+    AnswersPart root stream stream_after ended_after used used_after sink sink_after
+Turns (Some Limit) root stream stream_after left ended ended_after used used_after sink sink_after =
+    LeavesMore stream stream_after used used_after sink sink_after
+Turns (Some (Fault Device)) root stream stream_after left ended ended_after used used_after sink sink_after =
+    LeavesLine stream stream_after ended_after used used_after sink sink_after
+Turns (Some (Fault (Damaged damage))) root stream stream_after left ended ended_after used used_after sink sink_after =
+    StopsAtDamage damage root stream stream_after ended_after used used_after sink sink_after
 
 -- ---- the turns so far
 

@@ -196,7 +196,8 @@ impl LineReader {
             → TakesLine (stream_of self.old (S.left src.old)) (stream_of self.new (S.left src.new))
             (kept_of self.new) (ended_of self.new) (used_of self.old) (used_of self.new) }
         ensures end { IsTrue (S.tells src.old) → result ≡ Ok Next.End
-            → (stream_of self.old (S.left src.old) ≡ []) × (stream_of self.new (S.left src.new) ≡ [])
+            → (stream_of self.old (S.left src.old) ≡ []) × (stream_of self.new (S.left src.new)
+            ≡ [])
             × (S.left src.new ≡ []) × (used_of self.new ≡ used_of self.old) }
         ensures limit { result ≡ Ok Next.Limit
             → (used_of self.new ≡ limit) × (self.new.at < self.new.end) }

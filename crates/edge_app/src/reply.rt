@@ -4,16 +4,17 @@ ghost use Rattle.edge_app.specs.Turn.{AnswersTo};
 ghost use Rattle.edge_app.specs.Volume.{VolumeCount};
 ghost use Rattle.edge_app.specs.Reply.{bytes_of};
 
-use crate::volume::{ReadRoot, VolumeFault};
+use crate::volume::ReadRoot;
 use arrayvec::ArrayString;
 use edge_base::{Head, NodeType};
+use edge_model::AskFault;
 use itoa::Buffer;
 
 /// The text of a reply, with its line feed.
 pub type Reply = ArrayString<64>;
 
 /// The reply to a line: `stat /` tells the head of the root directory, and any other line is bad.
-pub fn answer<R: ReadRoot>(root: &mut R, line: &[u8]) -> Result<Reply, VolumeFault>
+pub fn answer<R: ReadRoot>(root: &mut R, line: &[u8]) -> Result<Reply, AskFault>
     ensures shows { R.shows root.new ≡ R.shows root.old }
     ensures root { R.root root.new ≡ R.root root.old }
     ensures same { R.same root.old root.new }

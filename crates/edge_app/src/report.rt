@@ -1,9 +1,11 @@
 ghost use Rattle.std.specs.Prelude.{◌≡◌, ◌≤◌, ◌++◌, length, drop, None, IsTrue};
-ghost use Rattle.edge_app.specs.Report.{EndsBy, number_of, fault_line_of};
+ghost use Rattle.edge_app.specs.Report.{unserved_by, unmounted_by, EndsBy, number_of, fault_line_of};
 
+use crate::mount::MountFault;
 use crate::session::{Ended, How};
 use arrayvec::ArrayString;
 use edge_base::{Damage, DamageKind};
+use edge_model::AskFault;
 use itoa::Buffer;
 
 /// How a run has ended. `docs/COMMANDS.md` has the statuses.
@@ -54,8 +56,7 @@ pub const LIMIT: u8 = 11;
 impl Report {
     /// The report of a run that answered no line.
     pub const fn unserved(status: u8) -> Report
-        ensures { result ≡ record
-            { status = status; reason = 0; commands = 0; taken = 0; points = 0; damage = None } }
+        ensures { result ≡ unserved_by status 0 }
     {
         Report {
             status,
@@ -67,14 +68,16 @@ impl Report {
         }
     }
 
-    /// The report of a run over an image that is no volume.
-    pub(crate) fn not_a_volume(reason: u8) -> Report
-        ensures { result ≡ record
-            { status = 8; reason = reason; commands = 0; taken = 0; points = 0; damage = None } }
+    /// The report of a run over an image that is not mounted.
+    pub(crate) fn unmounted(fault: MountFault) -> Report
+        ensures { result ≡ unmounted_by fault }
     {
-        Report {
-            reason,
-            ..Report::unserved(NOT_A_VOLUME)
+        match fault {
+            MountFault::Device => Report::unserved(DEVICE),
+            MountFault::NotVolume(reason) => Report {
+                reason,
+                ..Report::unserved(NOT_A_VOLUME)
+            },
         }
     }
 
@@ -90,8 +93,8 @@ impl Report {
             How::End => (DONE, None),
             How::Source => (SOURCE, None),
             How::Sink => (SINK, None),
-            How::Device => (DEVICE, None),
-            How::Damaged(damage) => (DAMAGED, Some(damage)),
+            How::Fault(AskFault::Device) => (DEVICE, None),
+            How::Fault(AskFault::Damaged(damage)) => (DAMAGED, Some(damage)),
             How::Limit => (LIMIT, None),
         };
         Report {

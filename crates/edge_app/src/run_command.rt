@@ -6,9 +6,9 @@ ghost use Rattle.edge_app.specs.World.{world_with_clock};
 ghost use Rattle.edge_io.specs.States.{ClockState};
 
 use crate::lines::LineReader;
-use crate::report::{DEVICE, MEMORY, Outcome, Report};
+use crate::report::{MEMORY, Outcome, Report};
 use crate::session::{Limit, serve};
-use crate::volume::{MountFault, Volume};
+use crate::volume::Volume;
 use edge_disk::Disk;
 use edge_io::{Sink, Source};
 use std::alloc::{AllocError, Global};
@@ -28,7 +28,7 @@ const LIMITS: Limit = Limit {
 #[derive(Drop)]
 struct Buffers {
     lines: LineReader,
-    root: Vec<u8>,
+    metaroot: Vec<u8>,
     block: Vec<u8>,
 }
 
@@ -37,12 +37,12 @@ impl Buffers {
         ensures unused { IfOk result (λ b. used_of b.lines ≡ 0) }
         ensures nothing_pending { IfOk result (λ b. pending b.lines ≡ []) }
         ensures not_ended { IfOk result (λ b. ended_of b.lines ≡ false) }
-        ensures root { IfOk result (λ b. vec_len b.root ≡ block_size) }
+        ensures metaroot { IfOk result (λ b. vec_len b.metaroot ≡ block_size) }
         ensures block { IfOk result (λ b. vec_len b.block ≡ block_size) }
     {
         Ok(Buffers {
             lines: LineReader::new(alloc)?,
-            root: vec![in alloc; 0u8; block_size as usize]?,
+            metaroot: vec![in alloc; 0u8; block_size as usize]?,
             block: vec![in alloc; 0u8; block_size as usize]?,
         })
     }
@@ -73,16 +73,10 @@ pub fn run_image<S: Source, K: Sink, D: Disk>(
             disk,
         };
     };
-    match Volume::mount(disk, buffers.root, buffers.block) {
-        Err((disk, fault)) => match fault {
-            MountFault::Device => Outcome {
-                report: Report::unserved(DEVICE),
-                disk,
-            },
-            MountFault::NotVolume(reason) => Outcome {
-                report: Report::not_a_volume(reason),
-                disk,
-            },
+    match Volume::mount(disk, buffers.metaroot, buffers.block) {
+        Err((disk, fault)) => Outcome {
+            report: Report::unmounted(fault),
+            disk,
         },
         Ok(mut volume) => {
             let ended = serve(src, out, &mut volume, LIMITS, &mut buffers.lines);

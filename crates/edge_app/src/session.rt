@@ -1,6 +1,7 @@
 ghost use Rattle.std.specs.Prelude.{◌≡◌, ◌⊎◌, ◌≤◌, [], IsTrue, Some, None, Err, true, false};
 ghost use Rattle.edge_app.specs.Feeds.{SeesEnd};
 ghost use Rattle.edge_base.specs.declared.damage.Damage.{Damage};
+ghost use Rattle.edge_model.specs.declared.ask.AskFault.TheVariants.{Damaged};
 ghost use Rattle.edge_app.specs.Script.{HoldsLines};
 ghost use Rattle.edge_app.specs.Session.{Ran};
 ghost use Rattle.edge_app.specs.Stream.{pending, stream_of, used_of, ended_of};
@@ -8,9 +9,9 @@ ghost use Rattle.edge_app.specs.Turn.{SourceCount, SinkCount, RootCount, HadRoom
 
 use crate::lines::{LineReader, Next};
 use crate::reply::answer;
-use crate::volume::{ReadRoot, VolumeFault};
-use edge_base::Damage;
+use crate::volume::ReadRoot;
 use edge_io::{Sink, Source, write_all};
+use edge_model::AskFault;
 
 /// How many lines a session answers at most, and how many bytes of a script it takes up.
 #[derive(Clone, Copy, Debug)]
@@ -30,10 +31,8 @@ pub enum How {
     Sink,
     /// A limit was reached, and the source gives a further byte.
     Limit,
-    /// The disk failed.
-    Device,
-    /// Damage was met.
-    Damaged(Damage),
+    /// The disk failed, or damage was met.
+    Fault(AskFault),
 }
 
 /// How a session has ended, how many lines were answered, and how many bytes of the script are in
@@ -74,7 +73,7 @@ fn turn<S: Source, K: Sink, R: ReadRoot>(
     ensures no_room { has_room ≡ false → used_of lines.new ≡ used_of lines.old }
     ensures end { IsTrue (S.tells src.old) → result ≡ Some How.End → S.left src.new ≡ [] }
     ensures damaged { IsTrue (R.shows root.old) → (damage : Damage)
-        → result ≡ Some (How.Damaged damage) → R.root root.old ≡ Err damage }
+        → result ≡ Some (How.Fault (Damaged damage)) → R.root root.old ≡ Err damage }
     ensures turned { IsTrue (R.shows root.old) → IsTrue (S.tells src.old) → IsTrue (K.tells out.old)
         → Turns result (R.root root.old)
         (stream_of lines.old (S.left src.old)) (stream_of lines.new (S.left src.new))
@@ -96,8 +95,7 @@ fn turn<S: Source, K: Sink, R: ReadRoot>(
     }
     let reply = match answer(root, lines.line()) {
         Ok(reply) => reply,
-        Err(VolumeFault::Device) => return Some(How::Device),
-        Err(VolumeFault::Damaged(damage)) => return Some(How::Damaged(damage)),
+        Err(fault) => return Some(How::Fault(fault)),
     };
     match write_all(out, reply.as_str().as_bytes()) {
         Ok(()) => None,
@@ -148,7 +146,7 @@ pub fn serve<S: Source, K: Sink, R: ReadRoot>(
         → HoldsLines (S.left src.old) result.commands result.taken ⊎ (result.taken ≡ limit.bytes) }
     ensures end { IsTrue (S.tells src.old) → result.how ≡ How.End → S.left src.new ≡ [] }
     ensures damaged { IsTrue (R.shows root.old) → (damage : Damage)
-        → result.how ≡ How.Damaged damage → R.root root.old ≡ Err damage }
+        → result.how ≡ How.Fault (Damaged damage) → R.root root.old ≡ Err damage }
     ensures ran { IsTrue (R.shows root.old) → IsTrue (S.tells src.old) → IsTrue (K.tells out.old)
         → Ran result.how (R.root root.old) (S.left src.old) (S.left src.new)
         result.commands result.taken (K.taken out.old) (K.taken out.new) }

@@ -7,40 +7,23 @@ ghost use Rattle.edge_disk.specs.State.{disk_of, shown_by, IsUntouched};
 ghost use Rattle.edge_disk.proofs.StateLaws.{untouched, untouched-twice};
 ghost use Rattle.edge_image.specs.Image.{place_of, head_told, head_of, root_number, reason_of};
 ghost use Rattle.edge_store.specs.View.{kind_of_fault};
-ghost use Rattle.edge_app.specs.Mount.{IsVolume};
-ghost use Rattle.edge_app.specs.Volume.{Tells, VolumeCount, MountCount, MountTold};
+ghost use Rattle.edge_app.specs.Mount.{IsVolume, MountCount, MountTold};
+ghost use Rattle.edge_app.specs.Volume.{Tells, VolumeCount};
 
-use crate::mount::{Mounted, is_used, mount};
+use crate::mount::{MountFault, is_used, mount};
 use edge_base::{Damage, DamageKind, Geometry, Head, NodeFault};
 use edge_disk::Disk;
+use edge_model::AskFault;
 use edge_nodes::decode_inode;
-
-/// Why a call of a volume has failed.
-#[derive(Clone, Copy, Debug, PartialEq, Eq)]
-pub enum VolumeFault {
-    /// A device call failed.
-    Device,
-    /// A block that was read is damaged.
-    Damaged(Damage),
-}
-
-/// Why an image is not mounted.
-#[derive(Clone, Copy, Debug, PartialEq, Eq)]
-pub enum MountFault {
-    /// A device call failed.
-    Device,
-    /// It is no volume, for this reason.
-    NotVolume(u8),
-}
 
 /// What is kept of a mounted image: its geometry, the bytes of its live metaroot, and room for a
 /// block.
 #[derive(Drop)]
 pub struct Kept {
     pub geometry: Geometry,
-    pub root: Vec<u8>,
+    pub metaroot: Vec<u8>,
     pub block: Vec<u8>,
-    ghost root_long: { vec_len root ≡ geometry.block_size },
+    ghost metaroot_long: { vec_len metaroot ≡ geometry.block_size },
     ghost block_long: { vec_len block ≡ geometry.block_size },
 }
 
@@ -64,14 +47,14 @@ fn kind_of(fault: NodeFault) -> DamageKind
 }
 
 impl<D: Disk> Volume<D> {
-    /// Mounts the image of a disk. `root` and `block` have a block's size. A fault gives the disk
-    /// back.
+    /// Mounts the image of a disk. `metaroot` and `block` have a block's size. A fault gives the
+    /// disk back.
     pub fn mount(
         mut disk: D,
-        mut root: Vec<u8>,
+        mut metaroot: Vec<u8>,
         mut block: Vec<u8>,
     ) -> Result<Volume<D>, (D, MountFault)>
-        requires root { vec_len root ≡ (D.origin disk).block_size }
+        requires metaroot { vec_len metaroot ≡ (D.origin disk).block_size }
         requires block { vec_len block ≡ (D.origin disk).block_size }
         ensures untouched { MatchResult result
             (λ v. IsUntouched (disk_of D.Disk disk) (disk_of D.Disk v.disk))
@@ -79,23 +62,19 @@ impl<D: Disk> Volume<D> {
         ensures cause { MatchResult result (λ v. D.faults v.disk ≡ D.faults disk)
             (λ e. MountCount e.1 (D.faults disk) (D.faults e.0)) }
         ensures told { IsTrue (D.origin disk).shows → MatchResult result
-            (λ v. IsVolume (shown_by (disk_of D.Disk disk)) v.kept.geometry v.kept.root.items)
+            (λ v. IsVolume (shown_by (disk_of D.Disk disk)) v.kept.geometry v.kept.metaroot.items)
             (λ e. MountTold e.1 (reason_of (shown_by (disk_of D.Disk disk)))) }
     {
-        let mounted = match mount(&mut disk, &mut root, &mut block) {
-            Ok(mounted) => mounted,
-            Err(_) => return Err((disk, MountFault::Device)),
-        };
-        match mounted {
-            Mounted::NotVolume(reason) => Err((disk, MountFault::NotVolume(reason))),
-            Mounted::Volume(geometry) => {
+        match mount(&mut disk, &mut metaroot, &mut block) {
+            Ok(geometry) => {
                 let kept = Kept {
                     geometry,
-                    root,
+                    metaroot,
                     block,
                 };
                 Ok(Volume { disk, kept })
             }
+            Err(fault) => Err((disk, fault)),
         }
     }
 
@@ -109,15 +88,15 @@ impl<D: Disk> Volume<D> {
 }
 
 // The place of the root's inode, or the damage where not exactly one of its two places is used.
-fn root_place(g: &Geometry, root: &[u8]) -> Result<u32, Damage>
-    requires { length root.now ≡ g.now.block_size }
-    ensures place { result ≡ place_of g.now root.now root_number }
+fn root_place(g: &Geometry, metaroot: &[u8]) -> Result<u32, Damage>
+    requires { length metaroot.now ≡ g.now.block_size }
+    ensures place { result ≡ place_of g.now metaroot.now root_number }
     ensures inside { IfOk result (λ place. place < g.now.blocks) }
 {
     let _within_limits = g.request();
     let first = g.inode_place(2, false);
     let second = g.inode_place(2, true);
-    match (is_used(g, root, first), is_used(g, root, second)) {
+    match (is_used(g, metaroot, first), is_used(g, metaroot, second)) {
         (true, false) => Ok(first),
         (false, true) => Ok(second),
         (true, true) => Err(Damage {
@@ -159,7 +138,7 @@ pub trait ReadRoot {
     ghost same: { Self → Self → Type 0 };
 
     /// The head of the root directory, read anew.
-    fn root_head(&mut self) -> Result<Head, VolumeFault>
+    fn root_head(&mut self) -> Result<Head, AskFault>
         ensures shows { shows self.new ≡ shows self.old }
         ensures root { root self.new ≡ root self.old }
         ensures same { same self.old self.new }
@@ -174,8 +153,8 @@ pub trait ReadRoot {
 impl<D: Disk> ReadRoot for Volume<D> {
     ghost shows = { λ v. (D.origin v.disk).shows };
 
-    ghost root = { λ v.
-        head_of v.kept.geometry (shown_by (disk_of D.Disk v.disk)) v.kept.root.items root_number };
+    ghost root = { λ v. let image = shown_by (disk_of D.Disk v.disk) in
+        head_of v.kept.geometry image v.kept.metaroot.items root_number };
 
     ghost faults = { λ v. D.faults v.disk };
 
@@ -185,18 +164,18 @@ impl<D: Disk> ReadRoot for Volume<D> {
 
     ghost same_in_turn = { λ v w x first second. untouched-twice first second };
 
-    fn root_head(&mut self) -> Result<Head, VolumeFault> {
+    fn root_head(&mut self) -> Result<Head, AskFault> {
         let kept = &mut self.kept;
-        let place = match root_place(&kept.geometry, &kept.root) {
+        let place = match root_place(&kept.geometry, &kept.metaroot) {
             Ok(place) => place,
-            Err(damage) => return Err(VolumeFault::Damaged(damage)),
+            Err(damage) => return Err(AskFault::Damaged(damage)),
         };
         if self.disk.read(place, &mut kept.block).is_err() {
-            return Err(VolumeFault::Device);
+            return Err(AskFault::Device);
         }
         match head_in(&kept.geometry, &kept.block, place) {
             Ok(head) => Ok(head),
-            Err(damage) => Err(VolumeFault::Damaged(damage)),
+            Err(damage) => Err(AskFault::Damaged(damage)),
         }
     }
 }

@@ -1,8 +1,8 @@
-pub mod PointsRowsPass
-pub mod FilesRowsPass
-pub mod SpaceRowsPass
-pub mod NamesRowsPass
-pub mod DescriptorsRowsPass
+pub mod PointsRows
+pub mod FilesRows
+pub mod SpaceRows
+pub mod NamesRows
+pub mod DescriptorsRows
 pub mod Members
 pub mod Ways
 pub mod Outcomes

@@ -9,11 +9,6 @@ pub mod Names
 pub mod Step
 pub mod Run
 pub mod Rules
-pub mod Rows
-pub mod PointsRows
-pub mod FilesRows
-pub mod SpaceRows
-pub mod NamesRows
-pub mod DescriptorsRows
+pub mod rows
 pub mod Asking
 pub mod Laws

@@ -5,10 +5,10 @@ use Rattle.edge_words.specs.declared.attached.Attached.{Attached}
 use Rattle.edge_words.specs.Words.{Word, Given, Interleaved, option, argument, is_option, words_of}
 use Rattle.edge_words.specs.Reading.{BeginsWithOption, SkipsOptions}
 use Rattle.edge_base.specs.layout.Sizes.{is_block_size}
-use Rattle.edge_words.specs.Orders.{Asked, Run, Format, Spells, image_of, block_size_of}
+use Rattle.edge_words.specs.Orders.{Wanted, Run, Format, Spells, image_of, block_size_of}
 use Rattle.edge_words.specs.Needs.{IsFirstArgument, IsNeedOf, make_blocks_of}
 use Rattle.edge_words.proofs.WordLaws.{rest_reads}
-use Rattle.edge_words.proofs.OrderLaws.{one_asked}
+use Rattle.edge_words.proofs.OrderLaws.{one_wanted}
 
 -- a rest that begins with no option begins with the argument
 record BeginsWith (rest : List Word) (word : Word) : Type 0 where
@@ -37,7 +37,7 @@ first_place {words} {rest} {options} {word} skips reads place is =
       no_option = first.no_option;
     }
 
-reads_image : (command : Word) (words : List Word) (asked : Asked) → Spells (command ∷ words) asked → (options : List Given) × Interleaved words options (image_of asked ∷ [])
+reads_image : (command : Word) (words : List Word) (wanted : Wanted) → Spells (command ∷ words) wanted → (options : List Given) × Interleaved words options (image_of wanted ∷ [])
 reads_image command words (Run image block_size) spells = (spells.1.options, spells.1.parts.parts)
 reads_image command words (Format image request) spells = (spells.1.options, spells.1.parts.parts)
 
@@ -45,23 +45,23 @@ pub length-words : (words rest : List (Bor Word)) → length words - length rest
 length-words words rest = simp length-map
 
 -- what is attached for the order that the words spell
-pub need_of : {command : Word} {behind words : List Word} (told : Asked) {place : ℕ} (a : Attached) → words ≡ command ∷ behind → Spells words told
+pub need_of : {command : Word} {behind words : List Word} (told : Wanted) {place : ℕ} (a : Attached) → words ≡ command ∷ behind → Spells words told
     → ((options : List Given) (word : Word) (others : List Word) → Interleaved behind options (word ∷ others) → IsFirstArgument behind place word)
     → a.image ≡ Some (1 + place) → a.block_size ≡ block_size_of told → a.make_blocks ≡ make_blocks_of told
-    → (asked : Asked) → Spells words asked → IsNeedOf words asked a
-need_of {command} {behind} {words} told {place} a are spells first image block_size make_blocks asked also =
-    let same = one_asked words told asked spells also in
-    let reads = reads_image command behind asked (subst (λ (w : List Word). Spells w asked) are also) in
+    → (wanted : Wanted) → Spells words wanted → IsNeedOf words wanted a
+need_of {command} {behind} {words} told {place} a are spells first image block_size make_blocks wanted also =
+    let same = one_wanted words told wanted spells also in
+    let reads = reads_image command behind wanted (subst (λ (w : List Word). Spells w wanted) are also) in
     record {
       place = place;
       image = image;
-      is_image = subst (λ (w : List Word). IsFirstArgument (drop 1 w) place (image_of asked)) (sym are) (first reads.0 (image_of asked) [] reads.1);
+      is_image = subst (λ (w : List Word). IsFirstArgument (drop 1 w) place (image_of wanted)) (sym are) (first reads.0 (image_of wanted) [] reads.1);
       block_size = block_size ∙ ap block_size_of same;
       make_blocks = make_blocks ∙ ap make_blocks_of same;
     }
 
 -- words that spell an order say one of the four block sizes
-pub spelled_size : (words : List Word) (asked : Asked) → Spells words asked → IsTrue (is_block_size (block_size_of asked))
-spelled_size [] asked spells = absurd spells
+pub spelled_size : (words : List Word) (wanted : Wanted) → Spells words wanted → IsTrue (is_block_size (block_size_of wanted))
+spelled_size [] wanted spells = absurd spells
 spelled_size (command ∷ words) (Run image block_size) spells = spells.1.block_size_is.one_of_four
 spelled_size (command ∷ words) (Format image request) spells = spells.1.request_is.block_size.one_of_four

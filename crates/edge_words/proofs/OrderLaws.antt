@@ -5,7 +5,7 @@ use Rattle.std.specs.List.{list_any}
 use Rattle.edge_base.specs.layout.Sizes.{is_block_size}
 use Rattle.edge_base.specs.declared.geometry.Request.{Request}
 use Rattle.edge_words.specs.Words.{Word, Given, SaysOr}
-use Rattle.edge_words.specs.Orders.{Asked, Run, Format, HasParts, SaysRequest, SpellsRun, SpellsFormat, Spells}
+use Rattle.edge_words.specs.Orders.{Wanted, Run, Format, HasParts, SaysRequest, SpellsRun, SpellsFormat, Spells}
 use Rattle.edge_words.proofs.WordLaws.{says_one, says_one_or, one_reading}
 
 -- ---- where no order is spelled
@@ -18,11 +18,11 @@ pub on_err-map : {T E : Type 0} (r : Result T E) {P Q : Type 0} → (P → Q) �
 on_err-map (Ok x) f h = tt
 on_err-map (Err e) f h = f h
 
-pub no_run : {words : List Word} → ((image : Word) (block_size : ℕ) → ¬ (SpellsRun words image block_size)) → (asked : Asked) → ¬ (Spells (codes "run" ∷ words) asked)
+pub no_run : {words : List Word} → ((image : Word) (block_size : ℕ) → ¬ (SpellsRun words image block_size)) → (wanted : Wanted) → ¬ (Spells (codes "run" ∷ words) wanted)
 no_run none (Run image block_size) spells = none image block_size spells.1
 no_run none (Format image request) spells = let e = spells.0 in cc
 
-pub no_format : {words : List Word} → ((image : Word) (request : Request) → ¬ (SpellsFormat words image request)) → (asked : Asked) → ¬ (Spells (codes "format" ∷ words) asked)
+pub no_format : {words : List Word} → ((image : Word) (request : Request) → ¬ (SpellsFormat words image request)) → (wanted : Wanted) → ¬ (Spells (codes "format" ∷ words) wanted)
 no_format none (Run image block_size) spells = let e = spells.0 in cc
 no_format none (Format image request) spells = none image request spells.1
 
@@ -67,14 +67,14 @@ one_format one two =
     let same = one_image one.parts two.parts in
     (same.1, one_request (subst (λ (options : List Given). SaysRequest options _) same.0 one.request_is) two.request_is)
 
-pub one_asked : (words : List Word) (one two : Asked) → Spells words one → Spells words two → one ≡ two
-one_asked [] one two spells also = elim spells [ ]
-one_asked (command ∷ words) (Run image block_size) (Run other size) spells also =
+pub one_wanted : (words : List Word) (one two : Wanted) → Spells words one → Spells words two → one ≡ two
+one_wanted [] one two spells also = elim spells [ ]
+one_wanted (command ∷ words) (Run image block_size) (Run other size) spells also =
     let same = one_run spells.1 also.1 in
     cc
-one_asked (command ∷ words) (Run image block_size) (Format other request) spells also = absurd (let e = sym spells.0 ∙ also.0 in cc)
-one_asked (command ∷ words) (Format image request) (Run other size) spells also = absurd (let e = sym spells.0 ∙ also.0 in cc)
-one_asked (command ∷ words) (Format image request) (Format other asked) spells also =
+one_wanted (command ∷ words) (Run image block_size) (Format other request) spells also = absurd (let e = sym spells.0 ∙ also.0 in cc)
+one_wanted (command ∷ words) (Format image request) (Run other size) spells also = absurd (let e = sym spells.0 ∙ also.0 in cc)
+one_wanted (command ∷ words) (Format image request) (Format other wanted) spells also =
     let same = one_format spells.1 also.1 in
     cc
 

@@ -7,21 +7,21 @@ use Rattle.edge_words.specs.declared.order.Order.TheVariants as orders
 use Rattle.edge_words.specs.Words.{Word, Given, Interleaved, Says, SaysOr, HaveNames}
 
 -- an order, with the bytes of the image's name
-pub data Asked : Type 0 where
-  Run : (image : Word) (block_size : ℕ) → Asked
-  Format : (image : Word) (request : Request) → Asked
+pub data Wanted : Type 0 where
+  Run : (image : Word) (block_size : ℕ) → Wanted
+  Format : (image : Word) (request : Request) → Wanted
 
--- what an order asks
-abbrev pub asked_by : Order → Asked
-asked_by (orders.Run image block_size) = Run image.now block_size
-asked_by (orders.Format image request) = Format image.now request
+-- what an order wants
+abbrev pub wanted_by : Order → Wanted
+wanted_by (orders.Run image block_size) = Run image.now block_size
+wanted_by (orders.Format image request) = Format image.now request
 
 -- the bytes of the image's name
-abbrev pub image_of : Asked → Word
+abbrev pub image_of : Wanted → Word
 image_of (Run image block_size) = image
 image_of (Format image request) = image
 
-abbrev pub block_size_of : Asked → ℕ
+abbrev pub block_size_of : Wanted → ℕ
 block_size_of (Run image block_size) = block_size
 block_size_of (Format image request) = request.block_size
 
@@ -63,8 +63,8 @@ pub record SpellsFormat (words : List Word) (image : Word) (request : Request) :
   pub parts : HasParts format_options words options image
   pub request_is : SaysRequest options request
 
--- The words spell what is asked: first the command word, and then options and the image's name.
-abbrev pub Spells : List Word → Asked → Type 0
-Spells [] asked = ⊥
+-- The words spell what is wanted: first the command word, and then options and the image's name.
+abbrev pub Spells : List Word → Wanted → Type 0
+Spells [] wanted = ⊥
 Spells (command ∷ words) (Run image block_size) = (command ≡ codes "run") × SpellsRun words image block_size
 Spells (command ∷ words) (Format image request) = (command ≡ codes "format") × SpellsFormat words image request

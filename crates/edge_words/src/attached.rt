@@ -1,7 +1,7 @@
 ghost use Rattle.std.specs.Prelude.{◌≡◌, IsTrue};
 ghost use Rattle.edge_base.specs.layout.Sizes.{is_block_size};
 ghost use Rattle.edge_words.specs.Words.{words_of};
-ghost use Rattle.edge_words.specs.Orders.{Asked, Spells, asked_by};
+ghost use Rattle.edge_words.specs.Orders.{Wanted, Spells, wanted_by};
 ghost use Rattle.edge_words.specs.Needs.{IsNeedOf, no_need, make_blocks_of};
 
 use crate::options::first_argument;
@@ -15,16 +15,18 @@ pub struct Attached {
     pub image: Option<usize>,
     /// Bytes of a block, 512 where they spell none.
     pub block_size: u32,
-    /// The blocks that the image is made with, where they spell a `format` whose geometry is within the
-    /// limits.
+    /// The blocks that the image is made with, where they spell a `format` whose geometry is within
+    /// the limits.
     pub make_blocks: Option<u32>,
 }
 
 /// What has to be attached for the words behind the program's name.
 pub fn need(words: &[&str]) -> Attached
-    ensures spelled { (asked : Asked) → Spells (words_of words.now) asked → IsNeedOf (words_of words.now) asked result }
+    ensures spelled { (wanted : Wanted) → Spells (words_of words.now) wanted
+        → IsNeedOf (words_of words.now) wanted result }
     ensures size { IsTrue (is_block_size result.block_size) }
-    ensures refused { ((asked : Asked) → ¬ (Spells (words_of words.now) asked)) → result ≡ no_need }
+    ensures refused { ((wanted : Wanted) → ¬ (Spells (words_of words.now) wanted))
+        → result ≡ no_need }
 {
     match (read_words(words), words) {
         (Ok(order), [_, rest @ ..]) => Attached {
@@ -41,7 +43,7 @@ pub fn need(words: &[&str]) -> Attached
 }
 
 fn make_blocks(order: &Order<'_>) -> Option<u32>
-    ensures { result ≡ make_blocks_of (asked_by order.now) }
+    ensures { result ≡ make_blocks_of (wanted_by order.now) }
 {
     match order {
         Order::Run { .. } => None,

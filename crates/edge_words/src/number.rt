@@ -5,7 +5,8 @@ use itoa::Buffer;
 
 /// The number that a word spells: the one that prints as the word.
 pub fn number_of(word: &str) -> Option<u32>
-    ensures { MatchOption result ((n : ℕ) → ¬ (SpellsNumber word.now n)) (λ n. SpellsNumber word.now n) }
+    ensures { MatchOption result ((n : ℕ) → ¬ (SpellsNumber word.now n))
+        (λ n. SpellsNumber word.now n) }
 {
     let n = word.parse().ok()?;
     if Buffer::new().format(n) == word {

@@ -36,8 +36,12 @@ pub fn skip_options<'a>(words: &'a [&'a str]) -> &'a [&'a str]
 
 /// The argument, where there is one and no other.
 pub fn only_argument<'a>(words: &'a [&'a str]) -> Option<&'a str>
-    ensures found { IfSome result (λ argument. (options : List Given) × Interleaved (words_of words.now) options (argument.now ∷ [])) }
-    ensures refused { IfNone result ((options : List Given) (argument : Word) → ¬ (Interleaved (words_of words.now) options (argument ∷ []))) }
+    ensures found { IfSome result
+        (λ argument. (options : List Given)
+        × Interleaved (words_of words.now) options (argument.now ∷ [])) }
+    ensures refused { IfNone result
+        ((options : List Given) (argument : Word)
+        → ¬ (Interleaved (words_of words.now) options (argument ∷ []))) }
 {
     let [argument, behind @ ..] = skip_options(words) else {
         return None;
@@ -54,7 +58,8 @@ pub fn only_argument<'a>(words: &'a [&'a str]) -> Option<&'a str>
 
 /// The place of the first argument, where there is one.
 pub fn first_argument(words: &[&str]) -> usize
-    ensures { (options : List Given) (argument : Word) (others : List Word) → Interleaved (words_of words.now) options (argument ∷ others)
+    ensures { (options : List Given) (argument : Word) (others : List Word)
+        → Interleaved (words_of words.now) options (argument ∷ others)
         → IsFirstArgument (words_of words.now) result argument }
 {
     words.len() - skip_options(words).len()
@@ -62,7 +67,8 @@ pub fn first_argument(words: &[&str]) -> usize
 
 /// Whether each option has one of these names.
 pub fn have_names<'a>(words: &'a [&'a str], names: &[&'a str]) -> bool
-    ensures { OfOptions (words_of words.now) (λ options. IsTrue result ↔ HaveNames (words_of names.now) options) }
+    ensures { OfOptions (words_of words.now)
+        (λ options. IsTrue result ↔ HaveNames (words_of names.now) options) }
 {
     let mut rest = words;
     loop {
@@ -77,8 +83,10 @@ pub fn have_names<'a>(words: &'a [&'a str], names: &[&'a str]) -> bool
 
 // The value of the option of this name, where it stands once.
 fn value_of<'a>(words: &'a [&'a str], name: &str) -> Result<Option<&'a str>, BadWords>
-    ensures ok { IfOk result (λ found. OfOptions (words_of words.now) (λ options. values_of name.now options ≡ value_list found)) }
-    ensures err { OnErr result (OfOptions (words_of words.now) (λ options. 2 ≤ length (values_of name.now options))) }
+    ensures ok { IfOk result (λ found. OfOptions (words_of words.now)
+        (λ options. values_of name.now options ≡ value_list found)) }
+    ensures err { OnErr result
+        (OfOptions (words_of words.now) (λ options. 2 ≤ length (values_of name.now options))) }
 {
     let mut found = None;
     let mut rest = words;

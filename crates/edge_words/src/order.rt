@@ -2,7 +2,7 @@ ghost use Rattle.std.specs.Prelude.{◌≡◌, ◌∷◌, ℕ, List, IfOk, OnErr
 ghost use Rattle.edge_base.specs.declared.geometry.Request.{Request};
 ghost use Rattle.edge_words.specs.Words.{Word, Given, words_of};
 ghost use Rattle.edge_words.specs.Reading.{Tells};
-ghost use Rattle.edge_words.specs.Orders.{Asked, asked_by, block_size_of, HasParts, SaysBlockSize, SaysRequest, SpellsRun, SpellsFormat, Spells};
+ghost use Rattle.edge_words.specs.Orders.{Wanted, wanted_by, block_size_of, HasParts, SaysBlockSize, SaysRequest, SpellsRun, SpellsFormat, Spells};
 
 use crate::options::{have_names, number, number_or, only_argument};
 use edge_base::Request;
@@ -20,7 +20,7 @@ pub enum Order<'a> {
 impl Order<'_> {
     /// Bytes of a block.
     pub fn block_size(&self) -> u32
-        ensures { result ≡ block_size_of (asked_by self.now) }
+        ensures { result ≡ block_size_of (wanted_by self.now) }
     {
         match self {
             Order::Run { block_size, .. } => *block_size,
@@ -36,8 +36,8 @@ pub struct BadWords;
 
 /// The order that the words behind the program's name spell.
 pub fn read_words<'a>(words: &'a [&'a str]) -> Result<Order<'a>, BadWords>
-    ensures spelled { IfOk result (λ order. Spells (words_of words.now) (asked_by order)) }
-    ensures refused { OnErr result ((asked : Asked) → ¬ (Spells (words_of words.now) asked)) }
+    ensures spelled { IfOk result (λ order. Spells (words_of words.now) (wanted_by order)) }
+    ensures refused { OnErr result ((wanted : Wanted) → ¬ (Spells (words_of words.now) wanted)) }
 {
     match words {
         ["run", rest @ ..] => run(rest),
@@ -47,8 +47,10 @@ pub fn read_words<'a>(words: &'a [&'a str]) -> Result<Order<'a>, BadWords>
 }
 
 fn run<'a>(words: &'a [&'a str]) -> Result<Order<'a>, BadWords>
-    ensures spelled { IfOk result (λ order. Spells (codes "run" ∷ words_of words.now) (asked_by order)) }
-    ensures refused { OnErr result ((image : Word) (block_size : ℕ) → ¬ (SpellsRun (words_of words.now) image block_size)) }
+    ensures spelled { IfOk result
+        (λ order. Spells (codes "run" ∷ words_of words.now) (wanted_by order)) }
+    ensures refused { OnErr result
+        ((image : Word) (block_size : ℕ) → ¬ (SpellsRun (words_of words.now) image block_size)) }
 {
     let image = image_in(words, &["-b"])?;
     let block_size = block_size(words)?;
@@ -56,8 +58,10 @@ fn run<'a>(words: &'a [&'a str]) -> Result<Order<'a>, BadWords>
 }
 
 fn format<'a>(words: &'a [&'a str]) -> Result<Order<'a>, BadWords>
-    ensures spelled { IfOk result (λ order. Spells (codes "format" ∷ words_of words.now) (asked_by order)) }
-    ensures refused { OnErr result ((image : Word) (request : Request) → ¬ (SpellsFormat (words_of words.now) image request)) }
+    ensures spelled { IfOk result
+        (λ order. Spells (codes "format" ∷ words_of words.now) (wanted_by order)) }
+    ensures refused { OnErr result
+        ((image : Word) (request : Request) → ¬ (SpellsFormat (words_of words.now) image request)) }
 {
     let image = image_in(words, &["-b", "-n", "-m", "-l", "-a", "-i"])?;
     let request = request(words)?;
@@ -66,8 +70,12 @@ fn format<'a>(words: &'a [&'a str]) -> Result<Order<'a>, BadWords>
 
 // The image's name, where it is the one argument among options of these names.
 fn image_in<'a>(words: &'a [&'a str], names: &[&'a str]) -> Result<&'a str, BadWords>
-    ensures parts { IfOk result (λ image. (options : List Given) × HasParts (words_of names.now) (words_of words.now) options image.now) }
-    ensures refused { OnErr result ((options : List Given) (image : Word) → ¬ (HasParts (words_of names.now) (words_of words.now) options image)) }
+    ensures parts { IfOk result
+        (λ image. (options : List Given)
+        × HasParts (words_of names.now) (words_of words.now) options image.now) }
+    ensures refused { OnErr result
+        ((options : List Given) (image : Word)
+        → ¬ (HasParts (words_of names.now) (words_of words.now) options image)) }
 {
     match only_argument(words) {
         Some(image) if !image.is_empty() && have_names(words, names) => Ok(image),
@@ -101,5 +109,6 @@ fn request(words: &[&str]) -> Result<Request, BadWords>
 
 /// Words spell one order alone.
 pub fn one_order()
-    ensures { (words : List Word) (one two : Asked) → Spells words one → Spells words two → one ≡ two }
+    ensures { (words : List Word) (one two : Wanted) → Spells words one → Spells words two
+        → one ≡ two }
 {}

@@ -5,4 +5,4 @@ use Rattle.edge_image.specs.Image.{is_unused}
 use Rattle.edge_app.proofs.mount.count_free_blocks.Given as goal
 
 abbrev pub invariant-loop-b : goal.invariant-loop-b
-invariant-loop-b l = l.count ≡ count_by (is_unused l.g l.root) (range_with_len (first_allocable_of l.g) (l.b - first_allocable_of l.g))
+invariant-loop-b l = l.count ≡ count_by (is_unused l.g l.metaroot) (range_with_len (first_allocable_of l.g) (l.b - first_allocable_of l.g))

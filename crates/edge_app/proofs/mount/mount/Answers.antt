@@ -1,35 +1,35 @@
-use Rattle.std.proofs.Common.{sym, ap, ◌∙◌, subst, arith}
+use Rattle.std.proofs.Common.{Some, None, sym, ap, ◌∙◌, subst, arith}
 use Rattle.std.specs.Prelude.{IsTrue}
 use Rattle.edge_base.specs.layout.Spelling.{master_in}
-use Rattle.edge_disk.specs.Image.{shown_image}
+use Rattle.edge_disk.specs.State.{disk_of, shown_by}
 use Rattle.edge_app.proofs.MountLaws.{too_few, no_master, other_size, too_large, judged, judged-same}
 use Rattle.edge_app.proofs.mount.mount.Goals as goal
 
 pub returns-then-blocks-lt3-clause-told : goal.returns-then-blocks-lt3-clause-told
-returns-then-blocks-lt3-clause-told g c = λ shows. too_few (shown_image (g.D.Disk.origin c.args.disk.now) (g.D.Disk.shown c.args.disk.now)) (omega arith)
+returns-then-blocks-lt3-clause-told g c = λ shows. too_few (shown_by (disk_of g.D.Disk c.args.disk.now)) (omega arith)
 
 pub returns-in_default-clause-told : goal.returns-in_default-clause-told
 returns-in_default-clause-told g c = λ shows.
-    no_master (shown_image (g.D.Disk.origin c.args.disk.now) (g.D.Disk.shown c.args.disk.now)) (omega arith) c.in_default.field-0
+    no_master (shown_by (disk_of g.D.Disk c.args.disk.now)) (omega arith) c.in_default.field-0
     (sym (ap master_in (c.in_ok-read.ensures.bytes shows)) ∙ sym c.in_default.ensures.exact)
 
 pub returns-then-request-block_size-clause-told : goal.returns-then-request-block_size-clause-told
 returns-then-request-block_size-clause-told g c = λ shows.
-    other_size (shown_image (g.D.Disk.origin c.args.disk.now) (g.D.Disk.shown c.args.disk.now)) c.in-Ok.master (omega arith)
+    other_size (shown_by (disk_of g.D.Disk c.args.disk.now)) c.in-Ok.master (omega arith)
     (sym (ap master_in (c.in_ok-read.ensures.bytes shows)) ∙ sym c.in-Ok.ensures.exact)
     (λ e. c.if-request-block_size.true (ap (λ r. r.block_size) c.request-request.ensures.same ∙ e ∙ sym (c.block_size.ensures ∙ ap (λ o. o.block_size) c.in_ok-read.ensures.origin)))
 
 pub returns-then-blocks-request-clause-told : goal.returns-then-blocks-request-clause-told
 returns-then-blocks-request-clause-told g c = λ shows.
-    too_large (shown_image (g.D.Disk.origin c.args.disk.now) (g.D.Disk.shown c.args.disk.now)) c.in-Ok.master (omega arith)
+    too_large (shown_by (disk_of g.D.Disk c.args.disk.now)) c.in-Ok.master (omega arith)
     (sym (ap master_in (c.in_ok-read.ensures.bytes shows)) ∙ sym c.in-Ok.ensures.exact)
     (sym (ap (λ r. r.block_size) c.request-request.ensures.same) ∙ c.if-request-block_size.false ∙ c.block_size.ensures ∙ ap (λ o. o.block_size) c.in_ok-read.ensures.origin)
     (omega (arith, c.blocks-3.ensures, ap (λ o. o.blocks) c.in_ok-read.ensures.origin, ap (λ r. r.blocks) c.request-request.ensures.same))
 
-pub returns-clause-told : goal.returns-clause-told
-returns-clause-told g c = λ shows.
-    let image = shown_image (g.D.Disk.origin c.args.disk.now) (g.D.Disk.shown c.args.disk.now) in
-    judged image c.in-Ok.master _ _ c.request-request.ensures.limits.inline (omega arith)
+pub returns-in-Some-clause-told : goal.returns-in-Some-clause-told
+returns-in-Some-clause-told g c = λ shows.
+    let image = shown_by (disk_of g.D.Disk c.args.disk.now) in
+    judged image c.in-Ok.master (Some c.in-Some.reason) _ c.request-request.ensures.limits.inline (omega arith)
     (sym (ap master_in (c.in_ok-read.ensures.bytes shows)) ∙ sym c.in-Ok.ensures.exact)
     (sym (ap (λ r. r.block_size) c.request-request.ensures.same) ∙ c.if-request-block_size.false ∙ c.block_size.ensures ∙ ap (λ o. o.block_size) c.in_ok-read.ensures.origin)
     (omega (arith, c.blocks-3.ensures, ap (λ o. o.blocks) c.in_ok-read.ensures.origin, ap (λ r. r.blocks) c.request-request.ensures.same))
@@ -37,4 +37,17 @@ returns-clause-told g c = λ shows.
     (c.in_ok-read-2.ensures.bytes (subst (λ o. IsTrue o.shows) (sym c.in_ok-read.ensures.origin) shows) ∙ ap (λ s. s 1) c.in_ok-read.ensures.shown)
     (c.in_ok-read-3.ensures.bytes (subst (λ o. IsTrue o.shows) (sym (c.in_ok-read-2.ensures.origin ∙ c.in_ok-read.ensures.origin)) shows)
     ∙ ap (λ s. s 2) (c.in_ok-read-2.ensures.shown ∙ c.in_ok-read.ensures.shown))
-    c.judge.ensures)
+    c.in-Some.ensures)
+
+pub returns-in-None-clause-told : goal.returns-in-None-clause-told
+returns-in-None-clause-told g c = λ shows.
+    let image = shown_by (disk_of g.D.Disk c.args.disk.now) in
+    judged image c.in-Ok.master None _ c.request-request.ensures.limits.inline (omega arith)
+    (sym (ap master_in (c.in_ok-read.ensures.bytes shows)) ∙ sym c.in-Ok.ensures.exact)
+    (sym (ap (λ r. r.block_size) c.request-request.ensures.same) ∙ c.if-request-block_size.false ∙ c.block_size.ensures ∙ ap (λ o. o.block_size) c.in_ok-read.ensures.origin)
+    (omega (arith, c.blocks-3.ensures, ap (λ o. o.blocks) c.in_ok-read.ensures.origin, ap (λ r. r.blocks) c.request-request.ensures.same))
+    (judged-same c.in-Ok.master.geometry _ _ _ _ _ _
+    (c.in_ok-read-2.ensures.bytes (subst (λ o. IsTrue o.shows) (sym c.in_ok-read.ensures.origin) shows) ∙ ap (λ s. s 1) c.in_ok-read.ensures.shown)
+    (c.in_ok-read-3.ensures.bytes (subst (λ o. IsTrue o.shows) (sym (c.in_ok-read-2.ensures.origin ∙ c.in_ok-read.ensures.origin)) shows)
+    ∙ ap (λ s. s 2) (c.in_ok-read-2.ensures.shown ∙ c.in_ok-read.ensures.shown))
+    c.in-None.ensures)

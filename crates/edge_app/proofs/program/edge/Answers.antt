@@ -1,7 +1,7 @@
 use Rattle.std.proofs.Common.{rules, inl, subst}
 use Rattle.edge_words.specs.Words.{words_of}
 use Rattle.edge_words.specs.declared.order.Order.{Order}
-use Rattle.edge_words.specs.Orders.{Run, Format, Spells, asked_by}
+use Rattle.edge_words.specs.Orders.{Run, Format, Spells, wanted_by}
 use Rattle.edge_io.specs.States.{source_of, clock_of}
 use Rattle.edge_app.proofs.PromiseLaws.{does, run_has_status, format_has_status}
 use Rattle.edge_app.proofs.program.edge.Goals.{After-run_image, After-format_image}
@@ -27,14 +27,14 @@ returns-in_default-clause-promise g c = record {
     origin = search rules;
   };
   nothing = search rules;
-  command = λ asked spells. absurd (c.in_default.ensures.refused asked spells);
+  command = λ wanted spells. absurd (c.in_default.ensures.refused wanted spells);
 }
 
 -- ---- each command
 
 pub returns-in-Run-clause-promise : goal.returns-in-Run-clause-promise
 returns-in-Run-clause-promise g c =
-    let spelled : Spells (words_of c.args.words.now) (Run c.in-Run.image.now c.in-Run.block_size) = subst (λ (o : Order). Spells (words_of c.args.words.now) (asked_by o)) c.in-Run.is c.in-Ok.ensures.spelled in
+    let spelled : Spells (words_of c.args.words.now) (Run c.in-Run.image.now c.in-Run.block_size) = subst (λ (o : Order). Spells (words_of c.args.words.now) (wanted_by o)) c.in-Run.is c.in-Ok.ensures.spelled in
     let runs = c.run_image.ensures.runs (clock_of g.C.Clock c.args.clock.now) in
     record {
       status = run_has_status (words_of c.args.words.now) c.in-Run.image.now c.in-Run.block_size spelled _ _ runs.status;
@@ -45,7 +45,7 @@ returns-in-Run-clause-promise g c =
 
 pub returns-in-Format-clause-promise : goal.returns-in-Format-clause-promise
 returns-in-Format-clause-promise g c =
-    let spelled : Spells (words_of c.args.words.now) (Format c.in-Format.image.now c.in-Format.request) = subst (λ (o : Order). Spells (words_of c.args.words.now) (asked_by o)) c.in-Format.is c.in-Ok.ensures.spelled in
+    let spelled : Spells (words_of c.args.words.now) (Format c.in-Format.image.now c.in-Format.request) = subst (λ (o : Order). Spells (words_of c.args.words.now) (wanted_by o)) c.in-Format.is c.in-Ok.ensures.spelled in
     let formats = c.format_image.ensures.formats (source_of g.S.Source c.args.src.now) in
     record {
       status = format_has_status (words_of c.args.words.now) c.in-Format.image.now c.in-Format.request spelled _ _ formats.status formats.unfit;

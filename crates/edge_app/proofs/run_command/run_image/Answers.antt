@@ -3,13 +3,14 @@ use Rattle.edge_image.specs.Image.{reason_of}
 use Rattle.edge_disk.specs.State.{IsUntouched, disk_of, shown_by}
 use Rattle.edge_disk.proofs.StateLaws.{untouched}
 use Rattle.edge_app.specs.Report.{EndsBy}
+use Rattle.edge_app.specs.Causes.{HasCauses}
 use Rattle.edge_app.specs.Runs.{Runs}
 use Rattle.edge_app.specs.Turn.{RootCount}
-use Rattle.edge_app.specs.Volume.{MountCount, MountTold}
+use Rattle.edge_app.specs.Mount.{MountCount, MountTold}
 use Rattle.edge_app.specs.World.{world_with_clock}
 use Rattle.edge_io.specs.States.{source_of, sink_of}
 use Rattle.edge_app.specs.declared.report.Report.{Report}
-use Rattle.edge_app.proofs.RunsLaws.{runs_unserved, runs_served, same_report, source_counts, sink_counts, device_counts, undamaged}
+use Rattle.edge_app.proofs.RunsLaws.{runs_unserved, runs_unmounted, causes_unmounted, runs_served, same_report, source_counts, sink_counts, device_counts, undamaged}
 use Rattle.edge_app.proofs.run_command.run_image.Goals as goal
 
 -- the count of the disk's faults, from the beginning on
@@ -25,23 +26,21 @@ returns-in_default-clause-runs g c = λ clock.
     subst (λ (r : Report). Runs start start r) (sym c.unserved.ensures)
     (runs_unserved start (disk_of g.D.Disk c.args.disk) 7 0 (inr (inl refl)) (λ e. absurd (omega arith)) (λ shows e. absurd (omega arith)) (g.met.D.Disk.sure_is_shown c.args.disk) untouched)
 
--- ---- the disk failed, or the image is no volume
+-- ---- the image is not mounted
 
-pub returns-in-Device-clause-runs : goal.returns-in-Device-clause-runs
-returns-in-Device-clause-runs g c = λ clock.
+pub returns-in-Err-clause-causes : goal.returns-in-Err-clause-causes
+returns-in-Err-clause-causes g c = λ clock.
     let start = world_with_clock g.S.Source g.K.Sink g.D.Disk clock c.args.src.now c.args.out.now c.args.disk in
-    let end = world_with_clock g.S.Source g.K.Sink g.D.Disk clock c.args.src.now c.args.out.now c.in-Err.disk in
-    subst (λ (r : Report). Runs start end r) (sym c.unserved-in-Device.ensures)
-    (runs_unserved start (disk_of g.D.Disk c.in-Err.disk) 5 0 (inl refl) (λ _. subst (λ f. MountCount f (g.D.Disk.faults c.args.disk) (g.D.Disk.faults c.in-Err.disk)) c.in-Device.is c.in-Err.ensures.cause)
-    (λ shows e. absurd (omega arith)) (g.met.D.Disk.sure_is_shown c.args.disk) c.in-Err.ensures.untouched)
+    let end = disk_of g.D.Disk c.in-Err.disk in
+    subst (λ (r : Report). HasCauses start (record start { disk = end }) r) (sym c.unmounted.ensures)
+    (causes_unmounted start end c.in-Err.fault c.in-Err.ensures.cause c.in-Err.ensures.untouched.origin)
 
 pub returns-in-Err-clause-runs : goal.returns-in-Err-clause-runs
 returns-in-Err-clause-runs g c = λ clock.
     let start = world_with_clock g.S.Source g.K.Sink g.D.Disk clock c.args.src.now c.args.out.now c.args.disk in
-    let end = world_with_clock g.S.Source g.K.Sink g.D.Disk clock c.args.src.now c.args.out.now c.in-Err.disk in
-    subst (λ (r : Report). Runs start end r) (sym c.not_a_volume.ensures)
-    (runs_unserved start (disk_of g.D.Disk c.in-Err.disk) 8 c.in-NotVolume.reason (inr (inr refl)) (λ e. absurd (omega arith))
-    (λ shows _. subst (λ f. MountTold f (reason_of (shown_by start.disk))) c.in-NotVolume.is (c.in-Err.ensures.told shows)) (g.met.D.Disk.sure_is_shown c.args.disk) c.in-Err.ensures.untouched)
+    let end = disk_of g.D.Disk c.in-Err.disk in
+    subst (λ (r : Report). Runs start (record start { disk = end }) r) (sym c.unmounted.ensures)
+    (runs_unmounted start end c.in-Err.fault c.in-Err.ensures.cause c.in-Err.ensures.told (g.met.D.Disk.sure_is_shown c.args.disk) c.in-Err.ensures.untouched)
 
 -- ---- a session
 
@@ -64,7 +63,7 @@ returns-clause-runs g c = λ clock.
     let same : report ≡ c.served.result = same_report c.served.result ended.commands ended.taken c.served.ensures.commands c.served.ensures.taken in
     subst (λ (r : Report). Runs start (world_with_clock g.S.Source g.K.Sink g.D.Disk clock c.serve-ended.new.src c.serve-ended.new.out c.into_disk.result) r) same
     (runs_served start (disk_of g.D.Disk volume.disk) (disk_of g.D.Disk c.into_disk.result) (source_of g.S.Source c.serve-ended.new.src) (sink_of g.K.Sink c.serve-ended.new.out) ended.how report
-    volume.kept.geometry volume.kept.root.items c.in-Ok-mount.ensures.untouched
+    volume.kept.geometry volume.kept.metaroot.items c.in-Ok-mount.ensures.untouched
     (subst (λ d. IsUntouched (disk_of g.D.Disk volume.disk) (disk_of g.D.Disk d)) (sym c.into_disk.ensures) c.serve-ended.ensures.same)
     c.in-Ok-mount.ensures.told (subst (λ (r : Report). EndsBy ended.how r) (sym same) c.served.ensures.how) c.served.ensures.points
     c.serve-ended.ensures.short c.serve-ended.ensures.room c.serve-ended.ensures.limit c.serve-ended.ensures.limit_bytes c.serve-ended.ensures.end c.serve-ended.ensures.damaged c.serve-ended.ensures.ran

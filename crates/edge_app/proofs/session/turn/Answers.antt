@@ -1,25 +1,14 @@
 use Rattle.std.proofs.Common.{◌++◌, ap, ◌∙◌, subst, Ok, Err}
-use Rattle.edge_app.specs.declared.volume.VolumeFault.TheVariants.{Damaged, Device}
 use Rattle.edge_app.specs.Turn.{AnswersTo}
 use Rattle.edge_io.specs.Streams.{TookPart}
-use Rattle.edge_app.proofs.SessionLaws.{meets_damage, leaves_line, answers_line, answers_part}
+use Rattle.edge_app.proofs.SessionLaws.{stops_at_fault, answers_line, answers_part}
 use Rattle.edge_app.proofs.session.turn.Goals as goal
 
-pub returns-in-Err-Damaged-clause-turned : goal.returns-in-Err-Damaged-clause-turned
-returns-in-Err-Damaged-clause-turned g c = λ shows tells told.
+pub returns-in-Err-answer-clause-turned : goal.returns-in-Err-answer-clause-turned
+returns-in-Err-answer-clause-turned g c = λ shows tells told.
     let line = c.next.ensures.line tells (c.in-Ok-Line.is ∙ ap Ok c.in-Ok-Line.field-0-is) in
-    let answer = c.in-Err-Damaged.ensures.told shows in
-    meets_damage (g.R.ReadRoot.root c.args.root.now) _ _ _ _ _ _ line c.in-Err-Damaged.damage _
-    (subst (λ l. AnswersTo (g.R.ReadRoot.root c.args.root.now) l (Err (Damaged c.in-Err-Damaged.damage))) c.line.ensures
-    (subst (λ f. AnswersTo (g.R.ReadRoot.root c.args.root.now) c.line.result.now (Err f)) c.in-Err-Damaged.field-0-is answer))
-
-pub returns-in-Err-Device-clause-turned : goal.returns-in-Err-Device-clause-turned
-returns-in-Err-Device-clause-turned g c = λ shows tells told.
-    let line = c.next.ensures.line tells (c.in-Ok-Line.is ∙ ap Ok c.in-Ok-Line.field-0-is) in
-    let answer = c.in-Err-Device.ensures.told shows in
-    leaves_line (g.R.ReadRoot.root c.args.root.now) _ _ _ _ _ _ line _
-    (subst (λ l. AnswersTo (g.R.ReadRoot.root c.args.root.now) l (Err Device)) c.line.ensures
-    (subst (λ f. AnswersTo (g.R.ReadRoot.root c.args.root.now) c.line.result.now (Err f)) c.in-Err-Device.field-0-is answer))
+    stops_at_fault (g.R.ReadRoot.root c.args.root.now) _ _ _ _ _ _ line c.in-Err-answer.fault _ _ _
+    (subst (λ l. AnswersTo (g.R.ReadRoot.root c.args.root.now) l (Err c.in-Err-answer.fault)) c.line.ensures (c.in-Err-answer.ensures.told shows))
 
 pub returns-in-Ok-write_all-clause-turned : goal.returns-in-Ok-write_all-clause-turned
 returns-in-Ok-write_all-clause-turned g c = λ shows tells told.

@@ -1,11 +1,12 @@
 -- Worked scripts: names.
-use Rattle.std.specs.Prelude.{[], ◌∷◌, codes}
+use Rattle.std.specs.Prelude.{List, [], ◌∷◌, codes, ℕ, ◌-◌, ◌++◌, replicate}
+use Rattle.std.specs.List.{flat_map, range_with_len}
 use Rattle.edge_base.specs.declared.node.NodeType.TheVariants.{File, Directory}
 use Rattle.edge_base.specs.declared.refusal.Refusal.TheVariants.{NoEntry, BadDescriptor, Busy, Exists, NotDir, IsDir, Invalid, NoInodes, TooBig, TooManyLinks, NameTooLong, NotEmpty}
 use Rattle.edge_model.specs.Asked as ask
 use Rattle.edge_model.specs.Asked.{done, number, bytes, end, entry}
 use Rattle.edge_model.specs.Tree.{only_root}
-use Rattle.edge_model.specs.Rows.{Row, says, told, no, stated, left, small, names_of_252, long_names, crowded, many_names, wc}
+use Rattle.edge_model.specs.rows.Row.{Row, says, told, no, stated, left, small, names_of_252, long_names, crowded, many_names, wc}
 
 -- numbers are given out from the least on
 abbrev pub inodes_run_out : Row
@@ -62,19 +63,23 @@ paths = record {
   points = 1;
 }
 
+-- eight names of 28 letters, and one more, in a path of n bytes
+abbrev pub long_path : ℕ → List ℕ
+long_path n = flat_map (λ _. codes "/" ++ replicate 28 97) (range_with_len 0 8) ++ codes "/" ++ replicate (n - 233) 98
+
 -- a path has at most 255 bytes
 abbrev pub long_paths : Row
 long_paths = record {
   request = small;
   tree = only_root;
   exchanges =
-      says (ask.stat (codes "/aaaaaaaaaaaaaaaaaaaaaaaaaaaa/aaaaaaaaaaaaaaaaaaaaaaaaaaaa/aaaaaaaaaaaaaaaaaaaaaaaaaaaa/aaaaaaaaaaaaaaaaaaaaaaaaaaaa/aaaaaaaaaaaaaaaaaaaaaaaaaaaa/aaaaaaaaaaaaaaaaaaaaaaaaaaaa/aaaaaaaaaaaaaaaaaaaaaaaaaaaa/aaaaaaaaaaaaaaaaaaaaaaaaaaaa/bbbbbbbbbbbbbbbbbbbbbb")) (no NoEntry) ∷
-      says (ask.stat (codes "/aaaaaaaaaaaaaaaaaaaaaaaaaaaa/aaaaaaaaaaaaaaaaaaaaaaaaaaaa/aaaaaaaaaaaaaaaaaaaaaaaaaaaa/aaaaaaaaaaaaaaaaaaaaaaaaaaaa/aaaaaaaaaaaaaaaaaaaaaaaaaaaa/aaaaaaaaaaaaaaaaaaaaaaaaaaaa/aaaaaaaaaaaaaaaaaaaaaaaaaaaa/aaaaaaaaaaaaaaaaaaaaaaaaaaaa/bbbbbbbbbbbbbbbbbbbbbbb")) (no NameTooLong) ∷
-      says (ask.link (codes "/aaaaaaaaaaaaaaaaaaaaaaaaaaaa/aaaaaaaaaaaaaaaaaaaaaaaaaaaa/aaaaaaaaaaaaaaaaaaaaaaaaaaaa/aaaaaaaaaaaaaaaaaaaaaaaaaaaa/aaaaaaaaaaaaaaaaaaaaaaaaaaaa/aaaaaaaaaaaaaaaaaaaaaaaaaaaa/aaaaaaaaaaaaaaaaaaaaaaaaaaaa/aaaaaaaaaaaaaaaaaaaaaaaaaaaa/bbbbbbbbbbbbbbbbbbbbbbb") (codes "x")) (no Invalid) ∷
-      says (ask.link (codes "/aaaaaaaaaaaaaaaaaaaaaaaaaaaa/aaaaaaaaaaaaaaaaaaaaaaaaaaaa/aaaaaaaaaaaaaaaaaaaaaaaaaaaa/aaaaaaaaaaaaaaaaaaaaaaaaaaaa/aaaaaaaaaaaaaaaaaaaaaaaaaaaa/aaaaaaaaaaaaaaaaaaaaaaaaaaaa/aaaaaaaaaaaaaaaaaaaaaaaaaaaa/aaaaaaaaaaaaaaaaaaaaaaaaaaaa/bbbbbbbbbbbbbbbbbbbbbbb") (codes "/x")) (no NameTooLong) ∷
-      says (ask.link (codes "/x") (codes "/aaaaaaaaaaaaaaaaaaaaaaaaaaaa/aaaaaaaaaaaaaaaaaaaaaaaaaaaa/aaaaaaaaaaaaaaaaaaaaaaaaaaaa/aaaaaaaaaaaaaaaaaaaaaaaaaaaa/aaaaaaaaaaaaaaaaaaaaaaaaaaaa/aaaaaaaaaaaaaaaaaaaaaaaaaaaa/aaaaaaaaaaaaaaaaaaaaaaaaaaaa/aaaaaaaaaaaaaaaaaaaaaaaaaaaa/bbbbbbbbbbbbbbbbbbbbbbb")) (no NameTooLong) ∷
-      says (ask.rename (codes "/aaaaaaaaaaaaaaaaaaaaaaaaaaaa/aaaaaaaaaaaaaaaaaaaaaaaaaaaa/aaaaaaaaaaaaaaaaaaaaaaaaaaaa/aaaaaaaaaaaaaaaaaaaaaaaaaaaa/aaaaaaaaaaaaaaaaaaaaaaaaaaaa/aaaaaaaaaaaaaaaaaaaaaaaaaaaa/aaaaaaaaaaaaaaaaaaaaaaaaaaaa/aaaaaaaaaaaaaaaaaaaaaaaaaaaa/bbbbbbbbbbbbbbbbbbbbbbb") (codes "x")) (no Invalid) ∷
-      says (ask.rename (codes "/") (codes "/aaaaaaaaaaaaaaaaaaaaaaaaaaaa/aaaaaaaaaaaaaaaaaaaaaaaaaaaa/aaaaaaaaaaaaaaaaaaaaaaaaaaaa/aaaaaaaaaaaaaaaaaaaaaaaaaaaa/aaaaaaaaaaaaaaaaaaaaaaaaaaaa/aaaaaaaaaaaaaaaaaaaaaaaaaaaa/aaaaaaaaaaaaaaaaaaaaaaaaaaaa/aaaaaaaaaaaaaaaaaaaaaaaaaaaa/bbbbbbbbbbbbbbbbbbbbbbb")) (no NameTooLong) ∷
+      says (ask.stat (long_path 255)) (no NoEntry) ∷
+      says (ask.stat (long_path 256)) (no NameTooLong) ∷
+      says (ask.link (long_path 256) (codes "x")) (no Invalid) ∷
+      says (ask.link (long_path 256) (codes "/x")) (no NameTooLong) ∷
+      says (ask.link (codes "/x") (long_path 256)) (no NameTooLong) ∷
+      says (ask.rename (long_path 256) (codes "x")) (no Invalid) ∷
+      says (ask.rename (codes "/") (long_path 256)) (no NameTooLong) ∷
       [];
   points = 1;
 }
@@ -344,3 +349,9 @@ most_links = record {
       [];
   points = 1;
 }
+
+-- all of them
+abbrev pub name_rows : List Row
+name_rows =
+    inodes_run_out ∷ paths ∷ long_paths ∷ renames ∷ moved_directory ∷ longest_names ∷ rename_in_one_directory ∷ rename_over ∷ unlink_while_open ∷ slots ∷
+    removed_directories ∷ links ∷ greatest_directory ∷ most_links ∷ []

@@ -1,11 +1,11 @@
 -- Worked scripts: descriptors.
-use Rattle.std.specs.Prelude.{[], ◌∷◌, codes}
+use Rattle.std.specs.Prelude.{List, [], ◌∷◌, codes}
 use Rattle.edge_base.specs.declared.node.NodeType.TheVariants.{File}
 use Rattle.edge_base.specs.declared.refusal.Refusal.TheVariants.{NoEntry, BadDescriptor, Exists, NotDir, IsDir, Invalid, TooManyOpen}
 use Rattle.edge_model.specs.Asked as ask
 use Rattle.edge_model.specs.Asked.{done, number, bytes, end, entry}
 use Rattle.edge_model.specs.Tree.{only_root}
-use Rattle.edge_model.specs.Rows.{Row, says, told, no, stated, left, small, r, w, wc, rwt, wcx, wx, c, rc, rt, ra, none_at_all}
+use Rattle.edge_model.specs.rows.Row.{Row, says, told, no, stated, left, small, r, w, wc, rwt, wcx, wx, c, rc, rt, ra, none_at_all}
 
 -- the least free descriptor is given, and sixteen are all
 abbrev pub sixteen_descriptors : Row
@@ -108,3 +108,8 @@ directories_are_read = record {
       [];
   points = 1;
 }
+
+-- all of them
+abbrev pub descriptor_rows : List Row
+descriptor_rows =
+    sixteen_descriptors ∷ flags ∷ opened_and_emptied ∷ directories_are_read ∷ []

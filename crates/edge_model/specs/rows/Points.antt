@@ -1,11 +1,11 @@
 -- Worked scripts: points.
-use Rattle.std.specs.Prelude.{[], ◌∷◌, codes}
+use Rattle.std.specs.Prelude.{List, [], ◌∷◌, codes}
 use Rattle.edge_base.specs.declared.node.NodeType.TheVariants.{Directory}
 use Rattle.edge_base.specs.declared.refusal.Refusal.TheVariants.{BadDescriptor, Invalid}
 use Rattle.edge_model.specs.Asked as ask
 use Rattle.edge_model.specs.Asked.{done, number, bytes, end, entry}
 use Rattle.edge_model.specs.Tree.{only_root}
-use Rattle.edge_model.specs.Rows.{Row, bad, says, told, no, stated, left, small, r, wc, wt}
+use Rattle.edge_model.specs.rows.Row.{Row, bad, says, told, no, stated, left, small, r, wc, wt}
 
 -- no line: the point at the end alone
 abbrev pub empty_script : Row
@@ -105,3 +105,8 @@ masks = record {
       [];
   points = 3;
 }
+
+-- all of them
+abbrev pub point_rows : List Row
+point_rows =
+    empty_script ∷ fresh_volume ∷ bad_lines ∷ events ∷ no_event ∷ masks ∷ []

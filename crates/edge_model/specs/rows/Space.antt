@@ -1,11 +1,11 @@
 -- Worked scripts: space.
-use Rattle.std.specs.Prelude.{[], ◌∷◌, codes}
+use Rattle.std.specs.Prelude.{List, [], ◌∷◌, codes}
 use Rattle.edge_base.specs.declared.node.NodeType.TheVariants.{File}
 use Rattle.edge_base.specs.declared.refusal.Refusal.TheVariants.{Exists, NoSpace}
 use Rattle.edge_model.specs.Asked as ask
 use Rattle.edge_model.specs.Asked.{done, number, bytes, end, entry}
 use Rattle.edge_model.specs.Tree.{only_root}
-use Rattle.edge_model.specs.Rows.{Row, says, told, no, stated, left, small, blocks_22, blocks_23, blocks_24, blocks_3843, blocks_3844, blocks_100000, w, wc}
+use Rattle.edge_model.specs.rows.Row.{Row, says, told, no, stated, left, small, blocks_22, blocks_23, blocks_24, blocks_3843, blocks_3844, blocks_100000, w, wc}
 
 -- growing commands leave three blocks
 abbrev pub full_volume : Row
@@ -229,3 +229,9 @@ rmdir_without_room = record {
       [];
   points = 3;
 }
+
+-- all of them
+abbrev pub space_rows : List Row
+space_rows =
+    full_volume ∷ one_byte_too_many ∷ unlink_on_a_full_volume ∷ point_on_a_full_volume ∷ three_blocks ∷ volume_of_3843 ∷ volume_of_3844 ∷
+    volume_of_100000 ∷ four_blocks ∷ growth_without_a_block ∷ dirty_blocks_are_free ∷ rmdir_without_room ∷ []

@@ -1,11 +1,11 @@
 -- Worked scripts: files.
-use Rattle.std.specs.Prelude.{[], ◌∷◌, codes}
+use Rattle.std.specs.Prelude.{List, [], ◌∷◌, codes}
 use Rattle.edge_base.specs.declared.node.NodeType.TheVariants.{File, Directory}
 use Rattle.edge_base.specs.declared.refusal.Refusal.TheVariants.{NoEntry, BadDescriptor, IsDir, Invalid, TooBig}
 use Rattle.edge_model.specs.Asked as ask
 use Rattle.edge_model.specs.Asked.{done, number, bytes, end, entry}
 use Rattle.edge_model.specs.Tree.{only_root}
-use Rattle.edge_model.specs.Rows.{Row, says, told, no, stated, left, small, direct_alone, r, wc, rwc, wca}
+use Rattle.edge_model.specs.rows.Row.{Row, says, told, no, stated, left, small, direct_alone, r, wc, rwc, wca}
 
 -- absent blocks read as zeros and take no room
 abbrev pub sparse_file : Row
@@ -170,3 +170,8 @@ file_refusals = record {
       [];
   points = 2;
 }
+
+-- all of them
+abbrev pub file_rows : List Row
+file_rows =
+    sparse_file ∷ cut_and_grown ∷ cut_at_a_block ∷ append ∷ positions ∷ greatest_file ∷ greatest_size ∷ file_refusals ∷ []

@@ -28,6 +28,11 @@ pub record Passes (row : Row) : Type 0 where
   pub answers : (run_of row.request row.tree (map (λ e. e.line) row.exchanges)).answers ≡ map (λ e. e.answer) row.exchanges
   pub points : length (closed (run_of row.request row.tree (map (λ e. e.line) row.exchanges))).trees ≡ row.points + 1
 
+-- so are those of each row
+abbrev pub AllPass : List Row → Type 0
+AllPass [] = Unit {0}
+AllPass (row ∷ rows) = Passes row × AllPass rows
+
 -- after the script, node n has this parent
 abbrev pub HasParent : Row → ℕ → ℕ → Type 0
 HasParent row n parent = parent_of (node_at (run_of row.request row.tree (map (λ e. e.line) row.exchanges)).state.tree n) ≡ parent

@@ -1,0 +1,6 @@
+pub mod Row
+pub mod Points
+pub mod Files
+pub mod Space
+pub mod Names
+pub mod Descriptors
