@@ -1,6 +1,6 @@
 -- A view that is kept in lists, after a change in them.
 use Rattle.std.proofs.Common.{◌≡◌, ◌≢◌, ℕ, ◌+◌, ◌*◌, ◌<◌, ◌≤◌, Bool, true, false, cond, List, length, get_or, replicate, refl, sym, ap, ◌∙◌, arith, inl, inr, Option, Some, None}
-use Rattle.std.specs.Prelude.{is_some, is_none, slice_index, slice_index_or, slice_set, nat_eq, Ok}
+use Rattle.std.specs.Prelude.{is_some, is_none, slice_index, slice_index_or, slice_set, nat_eq, Ok, Err}
 use Rattle.std.specs.Map.{update}
 use Rattle.std.proofs.lemmas.Bool.{cases_eq, cases_lt, eqb-true}
 use Rattle.std.proofs.lemmas.List.{get_or-replicate, get_or_past}
@@ -11,6 +11,7 @@ use Rattle.edge_base.specs.declared.form.Form.{Form}
 use Rattle.edge_base.specs.declared.form.Form.TheVariants.{Plain, Indirect, Double}
 use Rattle.edge_base.specs.declared.geometry.Request.{Request}
 use Rattle.edge_base.specs.declared.node.Head.{Head}
+use Rattle.edge_base.specs.declared.node.NodeFault.TheVariants.{WrongSignature}
 use Rattle.edge_base.specs.layout.Places.{entries_of, pointers_of}
 use Rattle.edge_store.specs.View.{no_view, Inode, Block, bytes, pointers, content, content_at, entries_in, empty_content, is_allocable, is_number, is_spot, is_owned_by, with_block, with_inode, with_head, with_entry, bytes_in, head_of_inode}
 use Rattle.edge_plain.specs.Kept.{row, block_kept, inode_kept, inode_in, block_in, view_in}
@@ -64,6 +65,16 @@ module _ (g : Request) where
   node_of_kept Indirect x ps bs node = refl
   node_of_kept Double x ps bs node = refl
 
+  -- under another form a block spells no pointer node
+  pub none_kept : (form other : Form) (x : ℕ) (ps bs : List ℕ) → other ≢ Plain → other ≢ form → content other (block_kept (Some form) x ps bs) ≡ pointers (Err WrongSignature)
+  none_kept form Plain x ps bs node far = absurd (node refl)
+  none_kept Plain Indirect x ps bs node far = refl
+  none_kept Plain Double x ps bs node far = refl
+  none_kept Indirect Indirect x ps bs node far = absurd (far refl)
+  none_kept Indirect Double x ps bs node far = refl
+  none_kept Double Indirect x ps bs node far = refl
+  none_kept Double Double x ps bs node far = absurd (far refl)
+
   -- a block of the form and the owner is kept so
   kept_so : (f : Option Form) (owner : ℕ) (ps bs : List ℕ) (form : Form) (x : ℕ) → form ≢ Plain → is_owned_by x (content form (block_kept f owner ps bs)) ≡ true → (f ≡ Some form) × (owner ≡ x)
   kept_so None owner ps bs form x node e = absurd (let h : false ≡ true = e in cc)
@@ -91,6 +102,8 @@ module _ (g : Request) where
         let qs : List ℕ = slice_set ps (b * pointers_of g + i) to in
         record {
           working = view_blocks forms forms owners owners ps qs bs bs b fits (λ k far. refl) (λ k far. refl) (λ k far. row-set_apart (pointers_of g) ps b i to k low far) (λ k far. refl) heads entries _ (sym (block_of_kept forms owners qs bs b fits));
+          spells_no_other = λ other other_node far. ap (content other) (block_of_kept forms owners qs bs b fits) ∙ ap (λ f. content other (block_kept f (slice_index owners b) (row (pointers_of g) qs b) (row g.block_size bs b))) so.0
+              ∙ none_kept form other (slice_index owners b) (row (pointers_of g) qs b) (row g.block_size bs b) other_node far;
           content = content_of qs ∙ (λ j. pointers (Ok (record { owner = x; entries = row-set_here (pointers_of g) ps b i to low j })))
               ∙ ap (λ y. pointers (Ok (record { owner = x; entries = slice_set (entries_in y) i to }))) (sym (content_of ps));
         }

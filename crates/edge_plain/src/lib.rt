@@ -6,5 +6,5 @@ mod plain;
 mod plain_view;
 mod rows;
 
-pub use laws::a_store_in_memory_has_no_fault;
+pub use laws::{inodes_lie_at_their_first_places, no_call_fails};
 pub use plain::PlainStore;

@@ -39,15 +39,14 @@ impl PlainStore {
     ghost use Rattle.edge_base.specs.layout.Places.{first_allocable_of};
     ghost use Rattle.edge_plain.specs.Plain.{state_of, origin_of, view_of_root};
     ghost use Rattle.edge_store.specs.Effects.{IsFresh};
+    ghost use Rattle.edge_store.specs.State.{IsMade};
     ghost use Rattle.edge_store.specs.View.{is_allocable, is_free, free_now};
 
     /// A store of the empty tree: its root is a directory without a block.
     pub fn new(alloc: Global, g: Geometry) -> Result<PlainStore, AllocError>
         ensures origin { IfOk result (λ s. (state_of s).origin ≡ origin_of g) }
-        ensures live { IfOk result (λ s. (state_of s).live ≡ true) }
-        ensures committed { IfOk result (λ s. (state_of s).committed ≡ view_of_root g) }
-        ensures working { IfOk result (λ s. (state_of s).working ≡ view_of_root g) }
-        ensures points { IfOk result (λ s. (state_of s).points ≡ 0) }
+        ensures made { IfOk result (λ s. IsMade (state_of s)) }
+        ensures view { IfOk result (λ s. (state_of s).committed ≡ view_of_root g) }
     {
         let root = Head {
             size: 0,

@@ -38,7 +38,7 @@ impl PlainView {
     ghost use Rattle.edge_base.specs.declared.form.Form.TheVariants.{Plain};
     ghost use Rattle.edge_plain.specs.KeptView.{view_of};
     ghost use Rattle.edge_store.specs.Damages.{damage_at};
-    ghost use Rattle.edge_store.specs.Effects.{HeadSet, EntrySet, InodeDropped, BlockDropped, IsLeastFree, PointerSet, BytesSet};
+    ghost use Rattle.edge_store.specs.Effects.{HeadSet, EntrySet, InodeDropped, BlockDropped, IsLeastFree, PointerSet, BytesSet, SpellsNoOther};
     ghost use Rattle.edge_store.specs.Placed.{entry_at};
     ghost use Rattle.edge_store.specs.View.{View, no_view, content_at, entries_in, bytes_in, head_of_inode, is_allocable, is_number, is_spot, is_used, with_inode, with_block, empty_inode, empty_content};
 
@@ -232,6 +232,7 @@ impl PlainView {
             ≡ with_block (view_of self.old) b ((view_of self.new).blocks b) }
         ensures content { content_at (view_of self.new) form b
             ≡ empty_content self.old.geometry form owner }
+        ensures other { SpellsNoOther (view_of self.new) form b }
     {
         let count = self.pointer_count();
         let size = self.geometry.request().block_size as usize;

@@ -20,6 +20,7 @@ overflow_sub-self-2 c =
       fresh = c.least_free-b.ensures.fresh;
       working = c.put_block.ensures.working;
       content = c.put_block.ensures.content;
+      spells_no_other = c.put_block.ensures.other;
     } in
     omega (arith, s.counted.after_is, taken_after g c0 v w c.args.form c.args.owner b taken)
 
@@ -35,6 +36,7 @@ invariant_of-self-clause-counted c =
       fresh = c.least_free-b.ensures.fresh;
       working = c.put_block.ensures.working;
       content = c.put_block.ensures.content;
+      spells_no_other = c.put_block.ensures.other;
     } in
     moved g c.put_block.new.self.geometry c0 v v _ _ _ _ _ c.put_block.ensures.geometry s.counted c0 w _ _ _ _ _
     (counted_taken g c0 v w _ _ _ _ _ s.counted c.args.form c.args.owner b taken c.least_free-b.ensures.least)

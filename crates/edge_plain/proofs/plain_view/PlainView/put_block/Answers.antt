@@ -8,7 +8,7 @@ use Rattle.edge_base.specs.layout.Places.{pointers_of}
 use Rattle.edge_plain.specs.Kept.{row, block_kept}
 use Rattle.edge_store.specs.View.{content}
 use Rattle.edge_store.proofs.RoomLaws.{inside}
-use Rattle.edge_plain.proofs.KeptLaws.{view_blocks, block_of_kept, empty_kept}
+use Rattle.edge_plain.proofs.KeptLaws.{view_blocks, block_of_kept, empty_kept, none_kept}
 use Rattle.edge_plain.proofs.plain_view.PlainView.put_block.Goals as goal
 
 pub returns-clause-working : goal.returns-clause-working
@@ -50,3 +50,18 @@ returns-clause-content c =
     let ps : row (pointers_of g) ps2 b ≡ replicate (pointers_of g) 0 = rw (count, ep) c.fill_row.ensures.here in
     let bs : row g.block_size bs2 b ≡ replicate g.block_size 0 = rw (size, eb) c.fill_row-2.ensures.here in
     ap (content c.args.form) (block_of_kept g forms2 owners2 ps2 bs2 b c.requires.block) ∙ (λ j. content c.args.form (block_kept (form j) (owner j) (ps j) (bs j))) ∙ empty_kept g c.args.form c.args.owner
+
+pub returns-clause-other : goal.returns-clause-other
+returns-clause-other c other node far =
+    let h = c.args.self.now in
+    let b = c.args.b in
+    let g = h.geometry in
+    let low : b < length h.forms.items = let r = inside g b c.requires.block in omega (arith, h.forms_length) in
+    let forms2 : List (Option Form) = slice_set h.forms.items b (Some c.args.form) in
+    let owners2 : List ℕ = slice_set h.owners.items b c.args.owner in
+    let ps2 : List ℕ = (with_items h.pointers c.fill_row.new.rows).items in
+    let bs2 : List ℕ = (with_items h.bytes c.fill_row-2.new.rows).items in
+    let form : slice_index_or forms2 b None ≡ Some c.args.form = get_or-set_same h.forms.items b (Some c.args.form) None low in
+    ap (content other) (block_of_kept g forms2 owners2 ps2 bs2 b c.requires.block)
+    ∙ ap (λ f. content other (block_kept f (slice_index owners2 b) (row (pointers_of g) ps2 b) (row g.block_size bs2 b))) form
+    ∙ none_kept g c.args.form other (slice_index owners2 b) (row (pointers_of g) ps2 b) (row g.block_size bs2 b) node far
