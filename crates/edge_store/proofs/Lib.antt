@@ -7,3 +7,4 @@ pub mod ViewLaws
 pub mod RoomLaws
 pub mod DamageLaws
 pub mod CallLaws
+pub mod LinkLaws

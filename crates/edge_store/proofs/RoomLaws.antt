@@ -1,16 +1,16 @@
 -- How many blocks and numbers are free after a change.
-use Rattle.std.proofs.Common.{◌≡◌, ◌≢◌, ℕ, zero, suc, ◌+◌, ◌<◌, ◌≤◌, ◌&&◌, not, Bool, true, false, cond, refl, sym, ap, ◌∙◌, subst, arith, inl, inr, Option, Some, None}
+use Rattle.std.proofs.Common.{◌≡◌, ◌≢◌, ◌⊎◌, ℕ, zero, suc, ◌+◌, ◌<◌, ◌≤◌, ◌&&◌, not, Bool, true, false, cond, refl, sym, ap, ◌∙◌, subst, arith, inl, inr, Option, Some, None}
 use Rattle.std.specs.Prelude.{is_some, is_none}
 use Rattle.std.specs.List.{count_by, range_with_len}
 use Rattle.std.proofs.lemmas.List.Sums.{sum_by-cons}
-use Rattle.std.proofs.lemmas.Bool.{cases_eq}
+use Rattle.std.proofs.lemmas.Bool.{cases_eq, and_parts}
 use Rattle.std.proofs.lemmas.Bool.Decides.{nat_tests}
 use Rattle.edge_base.specs.declared.form.Form.{Form}
 use Rattle.edge_base.specs.declared.geometry.Request.{Request}
 use Rattle.edge_base.specs.declared.node.Head.{Head}
 use Rattle.edge_base.specs.layout.Places.{first_allocable_of, allocable_of}
 use Rattle.edge_store.specs.View.{View, Inode, is_free, is_used, is_allocable, is_number, is_owned_by, empty_inode, with_block, with_inode, free_now, free_after, free_inodes}
-use Rattle.edge_store.specs.Effects.{IsLeastFree, Taken, Copied, BlockDropped, InodeDropped}
+use Rattle.edge_store.specs.Effects.{IsLeastFree, IsFresh, Taken, Copied, BlockDropped, InodeDropped}
 use Rattle.edge_store.proofs.ViewLaws.{used_of, used_alike, empty_is_owned, with_block_here, with_block_apart, with_inode_here, with_inode_apart}
 
 -- ---- counts over a range
@@ -46,7 +46,50 @@ count_less f h b was gone same a (suc n) low high =
           omega (arith, here, there, first, rest)
     ]
 
+first_or_none : (p : ℕ → Bool) (a : ℕ) → (p a ≡ true) ⊎ (p a ≡ false)
+first_or_none p a = elim (p a) as (λ t. (t ≡ true) ⊎ (t ≡ false)) [ true ↦ inl refl | false ↦ inr refl ]
+
+-- where some are counted, one passes
+some_counted : (p : ℕ → Bool) (a n : ℕ) → 0 < count_by p (range_with_len a n) → (b : ℕ) × (a ≤ b) × (b < a + n) × (p b ≡ true)
+some_counted p a zero some = absurd (let none : 0 < 0 = some in omega arith)
+some_counted p a (suc n) some =
+    let step = sum_by-cons (λ b. cond (p b) 1 0) a (range_with_len (a + 1) n) in
+    elim (first_or_none p a) [
+      | inl is ↦ (a, omega arith, omega arith, is)
+      | inr is ↦
+          let none : flag (p a) ≡ 0 = ap flag is in
+          let rest = some_counted p (a + 1) n (omega (arith, step, none)) in
+          (rest.0, omega (arith, rest.1), omega (arith, rest.2), rest.3)
+    ]
+
+-- where one passes, some are counted
+counts_some : (p : ℕ → Bool) (b : ℕ) → p b ≡ true → (a n : ℕ) → a ≤ b → b < a + n → 0 < count_by p (range_with_len a n)
+counts_some p b is a zero low high = absurd (omega arith)
+counts_some p b is a (suc n) low high =
+    let step = sum_by-cons (λ b. cond (p b) 1 0) a (range_with_len (a + 1) n) in
+    elim (cases_eq b a) [
+      | inl e ↦ let one : flag (p a) ≡ 1 = ap flag (ap p (sym e) ∙ is) in omega (arith, step, one)
+      | inr far ↦
+          let rest = counts_some p b is (a + 1) n (let neq : b ≢ a = far in omega arith) (omega arith) in
+          omega (arith, step, rest)
+    ]
+
+none_where : {A : Type 0} (o : Option A) → not (is_some o) ≡ true → o ≡ None
+none_where None e = refl
+none_where (Some x) e = absurd (let f : false ≡ true = e in cc)
+
 -- ---- blocks
+
+-- where a block is free, there is one
+pub room_somewhere : (g : Request) (c v : View) → 0 < free_now g c v → (b : ℕ) × IsFresh g c v b
+unfolding free_now
+room_somewhere g c v room =
+    let found = some_counted (is_free c v) (first_allocable_of g) (allocable_of g) room in
+    let b : ℕ = found.0 in
+    let parts = and_parts (not (is_used c b)) (not (is_used v b)) found.3 in
+    let low : first_allocable_of g ≤ b = found.1 in
+    let high : b < first_allocable_of g + allocable_of g = found.2 in
+    (b, record { allocable = grind (arith, nat_tests); unused = none_where (v.blocks b) parts.1; uncommitted = none_where (c.blocks b) parts.0 })
 
 pub inside : (g : Request) (b : ℕ) → is_allocable g b ≡ true → (first_allocable_of g ≤ b) × (b < first_allocable_of g + allocable_of g)
 inside g b h =
@@ -201,3 +244,14 @@ inode_dropped_more g v w n is there e = free_inodes-less g w v n (record {
   there = there;
   others = λ k far. sym (ap (λ (u : View). u.inodes k) e ∙ with_inode_apart v n None k far);
 })
+
+-- a number without an inode is counted
+pub some_free_inode : (g : Request) (v : View) (n : ℕ) → is_number g n ≡ true → v.inodes n ≡ None → 0 < free_inodes g v
+unfolding free_inodes
+some_free_inode g v n is absent =
+    let low : 2 ≤ n = grind (arith, nat_tests) in
+    let high : n < 2 + g.inodes = grind (arith, nat_tests) in
+    counts_some (λ k. is_none (v.inodes k)) n (ap is_none absent) 2 g.inodes low high
+
+pub no_free_inode : (g : Request) (v : View) → free_inodes g v ≡ 0 → (n : ℕ) → is_number g n ≡ true → v.inodes n ≢ None
+no_free_inode g v none n is absent = let some = some_free_inode g v n is absent in omega arith

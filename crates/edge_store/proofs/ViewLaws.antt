@@ -132,6 +132,7 @@ copied_of g c v w f from b fresh far e =
       fresh = fresh;
       working = e ∙ ap (λ o. with_block (with_block v b o) from None) (sym here);
       content = ap (content f) here;
+      spells_the_same = λ other node. ap (content other) here;
     }
 
 pub whole_with_head : (o : Option Inode) (head : Head) → head_of_inode o ≡ Some head → o ≡ Some (whole head (entries_of_inode o))

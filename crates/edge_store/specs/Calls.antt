@@ -1,6 +1,7 @@
 -- What every call of a store does, whatever it is for, and which faults it may answer.
-use Rattle.std.specs.Prelude.{◌≡◌, ◌+◌, is_ok, Option, Some, None, Result, Err, OnOk, OnErr}
+use Rattle.std.specs.Prelude.{◌≡◌, ◌≢◌, ◌+◌, is_ok, Option, Some, None, Result, Err, OnOk, OnErr}
 use Rattle.edge_base.specs.declared.damage.Damage.{Damage}
+use Rattle.edge_base.specs.declared.damage.DamageKind.TheVariants.{Tangled}
 use Rattle.edge_base.specs.outside.Faults.{TellsCause}
 use Rattle.edge_store.specs.declared.fault.StoreFault.{StoreFault}
 use Rattle.edge_store.specs.declared.fault.StoreFault.TheVariants.{Device, Damaged}
@@ -61,3 +62,7 @@ NeverDamaged result = (damage : Damage) → result ≡ Err (Damaged damage) → 
 -- A call of a layer above tells no damage but what is there, in the store as the call leaves it.
 abbrev pub TellsDamage : {T : Type 0} → StoreState → Result T StoreFault → Type 0
 TellsDamage new result = (damage : Damage) → result ≡ Err (Damaged damage) → HasDamage new damage
+
+-- A call that changes nothing tells no tangled node.
+abbrev pub TellsNoTangle : {T : Type 0} → Result T StoreFault → Type 0
+TellsNoTangle result = (damage : Damage) → result ≡ Err (Damaged damage) → damage.kind ≢ Tangled

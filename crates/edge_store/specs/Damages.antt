@@ -1,4 +1,4 @@
--- Damage: what is wrong with a block of a view. docs/COMMANDS.md has the kinds in words.
+-- Damage: what is wrong with a block of a view. The kinds are those of `DamageKind`, which has them in words.
 use Rattle.std.specs.Prelude.{◌≡◌, ◌≢◌, ◌⊎◌, ◌<◌, ◌≤◌, ℕ, ◌+◌, ◌*◌, ◌%◌, ◌==◌, true, false, nat_lt, if◌then◌else◌, List, slice_index, slice_range, Contains, Option, Some, None, Ok, Err}
 use Rattle.edge_base.specs.declared.damage.Damage.{Damage}
 use Rattle.edge_base.specs.declared.damage.DamageKind.{DamageKind}

@@ -1,9 +1,10 @@
 -- What calls do to views. v is the working view before a call and w the one after it, and c is the committed view.
-use Rattle.std.specs.Prelude.{◌≡◌, ◌≢◌, ◌<◌, ℕ, ◌+◌, true, List, length, ◌++◌, take, drop, slice_set, Option, Some, None, Ok}
+use Rattle.std.specs.Prelude.{◌≡◌, ◌≢◌, ◌<◌, ℕ, ◌+◌, true, List, length, ◌++◌, take, drop, slice_set, Option, Some, None, Ok, Err}
 use Rattle.edge_base.specs.declared.form.Form.{Form}
 use Rattle.edge_base.specs.declared.form.Form.TheVariants.{Plain}
 use Rattle.edge_base.specs.declared.geometry.Request.{Request}
 use Rattle.edge_base.specs.declared.node.Head.{Head}
+use Rattle.edge_base.specs.declared.node.NodeFault.TheVariants.{WrongSignature}
 use Rattle.edge_store.specs.View.{View, bytes, pointers, content_at, bytes_in, entries_in, empty_content, empty_inode, head_of_inode, is_allocable, is_number, with_block, with_head, with_entry, with_inode}
 
 -- ---- inodes
@@ -44,17 +45,23 @@ pub record IsFresh (g : Request) (c v : View) (b : ℕ) : Type 0 where
   pub unused : v.blocks b ≡ None
   pub uncommitted : c.blocks b ≡ None
 
+-- Under another form than this one the block spells no pointer node.
+abbrev pub SpellsNoOther : View → Form → ℕ → Type 0
+SpellsNoOther w form b = (other : Form) → other ≢ Plain → other ≢ form → content_at w other b ≡ pointers (Err WrongSignature)
+
 -- It was taken, with nothing in it.
 pub record Taken (g : Request) (c v w : View) (form : Form) (owner b : ℕ) : Type 0 where
   pub fresh : IsFresh g c v b
   pub working : w ≡ with_block v b (w.blocks b)
   pub content : content_at w form b ≡ empty_content g form owner
+  pub spells_no_other : SpellsNoOther w form b
 
 -- It was taken with the content of another, which the working view uses no more.
 pub record Copied (g : Request) (c v w : View) (form : Form) (from b : ℕ) : Type 0 where
   pub fresh : IsFresh g c v b
   pub working : w ≡ with_block (with_block v b (w.blocks b)) from None
   pub content : content_at w form b ≡ content_at v form from
+  pub spells_the_same : (other : Form) → other ≢ Plain → content_at w other b ≡ content_at v other from
 
 -- the block is not used any more
 abbrev pub BlockDropped : View → View → ℕ → Type 0
@@ -67,6 +74,7 @@ pub record PointerSet (v w : View) (form : Form) (owner b i to : ℕ) : Type 0 w
     owner = owner;
     entries = slice_set (entries_in (content_at v form b)) i to;
   }))
+  pub spells_no_other : SpellsNoOther w form b
 
 -- bytes with others from a place on
 abbrev pub put_in : List ℕ → ℕ → List ℕ → List ℕ

@@ -21,7 +21,8 @@ module _ (g : Request) (committed working : View) (writes removes : List Positio
   abbrev pub is_there_after : Position → Bool
   is_there_after p = has (positions_of g p.number (filter (has_after p.number) (range_with_len 0 (max_blocks_of g)))) p
 
-  -- Of the data positions that are written or added, and the ancestors of these and of the removed ones, those that are there after the change and are not dirty.
+  -- Of the data positions that are written or added, and the ancestors of these and of the removed ones, those that are there after the
+  -- change and are not dirty.
   abbrev pub fresh_positions : List Position
   fresh_positions = filter (λ p. is_there_after p && not (is_dirty g committed working p)) (touched g (λ p. false) writes removes)
 

@@ -63,14 +63,17 @@ nodes_on v entries (way.Double entry outer place) = pointer_at v Double (slice_i
 
 -- Node n has a block exactly at the positions that these data blocks need, and each is used, with its form and owner.
 pub record HasPlaces (g : Request) (v : View) (n : ℕ) (indices : List ℕ) : Type 0 where
-  pub places : (p : Position) → p.number ≡ n → p.index < positions_of_form g p.form → (block_at g v p ≢ 0) ↔ (has (positions_of g n indices) p ≡ true)
+  pub places : (p : Position) → p.number ≡ n → p.index < positions_of_form g p.form
+      → (block_at g v p ≢ 0) ↔ (has (positions_of g n indices) p ≡ true)
   pub spots : (p : Position) → has (positions_of g n indices) p ≡ true → is_spot v p.form n (block_at g v p) ≡ true
 
 -- no block of node n is pointed to twice from it
 abbrev pub IsOnce : Request → View → ℕ → List ℕ → Type 0
-IsOnce g v n indices = (p q : Position) → has (positions_of g n indices) p ≡ true → has (positions_of g n indices) q ≡ true → block_at g v p ≡ block_at g v q → p ≡ q
+IsOnce g v n indices = (p q : Position) → has (positions_of g n indices) p ≡ true → has (positions_of g n indices) q ≡ true
+    → block_at g v p ≡ block_at g v q → p ≡ q
 
--- Node n taken by itself has the shape of a node: it has an inode that can be read, its pointers lead where some data blocks need them, and no two to one block.
+-- Node n taken by itself has the shape of a node: it has an inode that can be read, its pointers lead where some data blocks need them,
+-- and no two to one block.
 pub record IsShaped (g : Request) (v : View) (n : ℕ) : Type 0 where
   pub head : Head
   pub entries : List ℕ

@@ -1,5 +1,5 @@
 -- What a store is at a moment, and what its calls ask of it.
-use Rattle.std.specs.Prelude.{◌≡◌, ◌<◌, ℕ, Bool, true, is_some, Option}
+use Rattle.std.specs.Prelude.{◌≡◌, ◌<◌, ℕ, Bool, true, is_some, Option, None}
 use Rattle.edge_base.specs.declared.damage.Damage.{Damage}
 use Rattle.edge_base.specs.outside.Below.{Origin}
 use Rattle.edge_store.specs.View.{View, is_allocable, is_link, is_number, is_new, free_now}
@@ -28,6 +28,13 @@ pub record StoreState : Type 1 where
 -- what the disk below holds is told, so that the views are those of what it holds
 abbrev pub Told : StoreState → Type 0
 Told s = s.origin.tells ≡ true
+
+-- A store as it is made: it may be asked, no point was taken, and nothing has changed since the view that it was made with.
+pub record IsMade (s : StoreState) : Type 0 where
+  pub live : s.live ≡ true
+  pub points : s.points ≡ 0
+  pub unchanged : s.working ≡ s.committed
+  pub undamaged : s.damage ≡ None
 
 -- ---- what calls ask
 

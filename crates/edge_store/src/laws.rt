@@ -9,7 +9,7 @@ ghost use Rattle.edge_base.specs.layout.Places.{allocable_of, max_blocks_of, way
 ghost use Rattle.edge_base.specs.tree.Positions.{Position, count_of, above_data, positions_of_form};
 ghost use Rattle.edge_store.specs.Counted.{Occupy};
 ghost use Rattle.edge_store.specs.Damages.{damage_at, damage_of_inode, IsDamage, IsLinked};
-ghost use Rattle.edge_store.specs.Effects.{Taken, Copied, BlockDropped, InodeMade, InodeDropped};
+ghost use Rattle.edge_store.specs.Effects.{IsFresh, Taken, Copied, BlockDropped, InodeMade, InodeDropped};
 ghost use Rattle.edge_store.specs.Frames.{KeepsChain, KeepsPointers, IsNoNodeOf};
 ghost use Rattle.edge_store.specs.Placed.{block_at, data_block, follow, nodes_on, HasPlaces, IsOnce};
 ghost use Rattle.edge_store.specs.View.{View, Block, Inode, IsView, entries_of_inode, with_block, with_inode, is_allocable, is_number, is_spot, is_used, is_new, free_now, free_after, free_inodes};
@@ -111,6 +111,19 @@ pub fn changes_of_free_blocks_after()
     ensures point { (g : Request) (v : View) → free_now g v v ≡ free_after g v }
 {}
 
+/// Where a block is free there is one that neither view uses.
+pub fn room_is_somewhere()
+    ensures { (g : Request) (c v : View) → 0 < free_now g c v → (b : ℕ) × IsFresh g c v b }
+{}
+
+/// No number is without an inode exactly where none is counted.
+pub fn free_inodes_are_somewhere()
+    ensures none { (g : Request) (v : View) → free_inodes g v ≡ 0
+        → (n : ℕ) → is_number g n ≡ true → v.inodes n ≢ None }
+    ensures some { (g : Request) (v : View) (n : ℕ)
+        → is_number g n ≡ true → v.inodes n ≡ None → 0 < free_inodes g v }
+{}
+
 /// How the number of numbers without an inode changes.
 pub fn changes_of_free_inodes()
     ensures made { (g : Request) (v w : View) (head : Head) (n : ℕ)
@@ -132,6 +145,14 @@ pub fn what_is_met_is_damage()
         (n : ℕ) (form : Form) (b : ℕ) (damage : Damage)
         → is_allocable g b ≡ true → IsLinked g v n form b
         → damage_at v form n b ≡ Some damage → IsDamage g places c v damage }
+{}
+
+/// In a node of a proper shape each link leads to a block of its form and owner. So nothing of it is
+/// misread.
+pub fn links_of_a_shaped_node_hold()
+    ensures { (g : Request) (v : View) (n : ℕ) (indices : List ℕ) (form : Form) (b : ℕ)
+        → HasPlaces g v n indices → IsLinked g v n form b → b ≢ 0
+        → is_spot v form n b ≡ true }
 {}
 
 /// No damage is met at a block exactly where it is used, and of the form and the owner.

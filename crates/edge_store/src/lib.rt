@@ -13,8 +13,9 @@ pub use fault::StoreFault;
 pub use laws::{
     a_kept_chain_keeps_its_block, blocks_lie_on_their_ways, changes_elsewhere_keep_pointers,
     changes_of_free_blocks_after, changes_of_free_blocks_now, changes_of_free_inodes,
-    data_and_free_blocks_are_no_nodes, free_blocks_and_positions, kept_pointers_keep_all_blocks,
-    only_allocable_blocks_are_used, spots_have_no_damage, what_is_met_is_damage,
+    data_and_free_blocks_are_no_nodes, free_blocks_and_positions, free_inodes_are_somewhere,
+    kept_pointers_keep_all_blocks, links_of_a_shaped_node_hold, only_allocable_blocks_are_used,
+    room_is_somewhere, spots_have_no_damage, what_is_met_is_damage,
 };
 pub use spot::{Free, Spot};
 pub use store::Store;

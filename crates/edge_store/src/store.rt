@@ -20,7 +20,7 @@ use edge_base::{Damage, Form, Geometry, Head};
 /// `may_hold` and `is_sure` are the candidates of the disk below; `is_clean` says that no change
 /// waits to be written to it.
 ///
-/// A call answers `StoreFault::Device` only where the disk below has had a fault, and
+/// A call answers `StoreFault::Device` only where the disk below has a fault in that call, and
 /// `StoreFault::Damaged` only where what it names is damaged. Either ends the store.
 pub trait Store {
     ghost state: { Self → StoreState };
@@ -256,12 +256,12 @@ pub trait Store {
     /// Ends the store with damage that a layer above has found, and answers it.
     fn report(&mut self, damage: Damage) -> StoreFault
         requires live { IsLive (state self.old) }
-        requires so { Told (state self.old) → HasDamage (state self.old) damage }
-        ensures told { result ≡ Damaged damage }
+        requires holds { Told (state self.old) → HasDamage (state self.old) damage }
+        ensures answer { result ≡ Damaged damage }
         ensures called { Called {T = ⊥} (state self.old) (state self.new) (Err result) }
         ensures point { KeepsPoint (state self.old) (state self.new) }
         ensures working { KeepsWorking (state self.old) (state self.new) }
-        ensures so { Told (state self.old) → HasDamage (state self.new) damage }
+        ensures still_holds { Told (state self.old) → HasDamage (state self.new) damage }
         ensures below { is_clean self.old → SameBelow
             (may_hold self.old) (may_hold self.new) (is_sure self.old) (is_sure self.new) };
 

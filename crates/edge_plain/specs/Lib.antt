@@ -1,0 +1,5 @@
+pub mod Kept
+pub mod KeptView
+pub mod KeptLaws
+pub mod Counts
+pub mod Plain
