@@ -1,0 +1,4 @@
+pub mod SealLaws
+pub mod PlaceLaws
+pub mod GivenLaws
+pub mod CacheLaws
