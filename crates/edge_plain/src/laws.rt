@@ -8,8 +8,8 @@ ghost use Rattle.edge_store.specs.Calls.{Called};
 ghost use Rattle.edge_store.specs.declared.fault.StoreFault.{StoreFault};
 ghost use Rattle.edge_store.specs.declared.fault.StoreFault.TheVariants.{Device};
 
-/// No call of a store in memory answers `StoreFault::Device`: each fault has its cause, and there is
-/// no disk whose count of faults could rise.
+/// No call of a store in memory answers `StoreFault::Device`: each fault has its cause, and there
+/// is no disk whose count of faults could rise.
 pub fn no_call_fails()
     ensures { (s t : PlainStore) (fault : StoreFault)
         → Called {T = ⊥} (state_of s) (state_of t) (Err fault) → fault ≢ Device }

@@ -147,8 +147,8 @@ pub fn what_is_met_is_damage()
         → damage_at v form n b ≡ Some damage → IsDamage g places c v damage }
 {}
 
-/// In a node of a proper shape each link leads to a block of its form and owner. So nothing of it is
-/// misread.
+/// In a node of a proper shape each link leads to a block of its form and owner. So nothing of it
+/// is misread.
 pub fn links_of_a_shaped_node_hold()
     ensures { (g : Request) (v : View) (n : ℕ) (indices : List ℕ) (form : Form) (b : ℕ)
         → HasPlaces g v n indices → IsLinked g v n form b → b ≢ 0
