@@ -64,16 +64,17 @@ index_code() {
 # The same of the definitions: a record is a call, and its fields are its clauses.
 index_specs() {
     awk '
-    FNR == 1 { split(FILENAME, part, "/"); crate = part[2]; record = "" }
+    FNR == 1 { split(FILENAME, part, "/"); crate = part[2]; record = ""; depth = 0 }
     /^[ \t]*--/ { next }
-    /^[^ \t]/ { record = "" }
+    /[^ \t]/ { match($0, /[^ \t]/); if (RSTART <= depth) record = "" }
     /^ *((abbrev|unfoldable) )?pub / {
+        match($0, /[^ \t]/); indent = RSTART
         text = $0; sub(/^ *((abbrev|unfoldable) )?pub /, "", text)
-        if (record != "" && $0 ~ /^  pub /) { sub(/[ :].*/, "", text); print "clause", crate, "-", record, text; next }
+        if (record != "" && $0 ~ /^ *pub /) { sub(/[ :].*/, "", text); print "clause", crate, "-", record, text; next }
         isrecord = (text ~ /^record /)
         sub(/^(record|data) /, "", text); sub(/[ :(].*/, "", text)
         print "call", crate, "-", text
-        if (isrecord) record = text
+        if (isrecord) { record = text; depth = indent }
     }
     ' $(find crates/*/specs -name '*.antt' | sort)
 }
