@@ -1,6 +1,6 @@
 ghost use Rattle.std.specs.Prelude.{◌≡◌, ◌≤◌, ◌⊎◌, slice_get, IfSome, IsNone, IsTrue};
 ghost use Rattle.edge_base.specs.layout.Sizes.{is_block_size};
-ghost use Rattle.edge_words.specs.Orders.{Asked, Spells};
+ghost use Rattle.edge_words.specs.Orders.{Wanted, Spells};
 ghost use Rattle.edge_words.specs.Words.{words_of};
 ghost use Rattle.edge_host.specs.HostDisk.{origin_of, faults_of};
 
@@ -29,8 +29,9 @@ impl<'a> Attachment<'a> {
 
     /// What is attached for the words behind the program's name.
     pub fn of_words(words: &'a [&'a str]) -> Attachment<'a>
-        ensures spelled { (asked : Asked) → Spells (words_of words.now) asked → IsFor asked result }
-        ensures refused { ((asked : Asked) → ¬ (Spells (words_of words.now) asked)) → result ≡ nothing }
+        ensures spelled { (wanted : Wanted) → Spells (words_of words.now) wanted → IsFor wanted result }
+        ensures refused { ((wanted : Wanted) → ¬ (Spells (words_of words.now) wanted))
+            → result ≡ nothing }
         ensures size { IsTrue (is_block_size result.block_size) }
     {
         let attached = need(words);

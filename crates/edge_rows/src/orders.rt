@@ -1,5 +1,5 @@
 ghost use Rattle.std.specs.Prelude.{◌≡◌};
-ghost use Rattle.edge_words.specs.Orders.{Asked, Spells, block_size_of};
+ghost use Rattle.edge_app.specs.Orders.{HaveBlockSize};
 ghost use Rattle.edge_words.specs.Words.{words_of};
 
 use crate::pieces::{PieceSink, PieceSource};
@@ -55,7 +55,7 @@ fn call<D: Disk + Drop>(
     words: &[&str],
     disk: D,
 ) -> Result<Answer<D>, AllocError>
-    requires { (asked : Asked) → Spells (words_of words.now) asked → (D.origin disk).block_size ≡ block_size_of asked }
+    requires { HaveBlockSize (words_of words.now) (D.origin disk).block_size }
 {
     let source = MemorySource::new(alloc, &row.script, &row.source_fails)?;
     let sink = MemorySink::new(alloc, row.sink_room, &row.sink_fails)?;

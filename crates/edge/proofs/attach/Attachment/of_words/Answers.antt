@@ -7,9 +7,9 @@ use Rattle.edge.proofs.attach.Attachment.of_words.Goals as goal
 use Rattle.edge.proofs.attach.Attachment.of_words.Goals.{in-Some, in-None}
 
 pub returns-clause-spelled : goal.returns-clause-spelled
-returns-clause-spelled c asked spells =
-    let need = c.need-attached.ensures.spelled asked spells in
-    let found = at_place c.args.words.now need.place (image_of asked) need.is_image in
+returns-clause-spelled c wanted spells =
+    let need = c.need-attached.ensures.spelled wanted spells in
+    let found = at_place c.args.words.now need.place (image_of wanted) need.is_image in
     elim c.match-attached.branch [
       | in-Some w ↦ let same : w.in-Some.place ≡ 1 + need.place = same_Some w.in-Some.place (1 + need.place) (sym w.in-Some.is ∙ need.image) in
           record {
