@@ -43,6 +43,7 @@ impl<D: Disk> Cache<D> {
     pub fn new(alloc: Global, disk: D) -> Result<Cache<D>, (D, AllocError)>
         ensures disk { IfOk result (λ c. c.disk ≡ disk) }
         ensures empty { IfOk result (λ c. c.held ≡ []) }
+        ensures clean { IfOk result (λ c. IsClean c.held) }
         ensures err { IfErr result (λ e. e.0 ≡ disk) }
     {
         let size = disk.block_size() as usize;
