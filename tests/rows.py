@@ -4,317 +4,25 @@ alone, and compares. Lines with a statement or a command that it does not know a
 
 usage: tests/rows.py [STDIN STDOUT]"""
 import os
-import struct
 import sys
+import tempfile
 import zlib
 
-SIZES = (512, 1024, 2048, 4096)
-LINE, LINES, BYTES = 8209, 2**32 - 1, 2**40
+from rows_model import (
+    Disk, Fails, Fault, HostDisk, HostFolder, Row, Run, bad_geometry, escaped, inode, master, metaroot, number, order_of,
+    sealed, unescaped)
 
 
 class Unknown(Exception):
-    pass
+    """A statement that this program does not know."""
 
 
-class Fault(Exception):
-    """What is wrong with a node, and where."""
-
-
-def number(at, size, block):
-    return int.from_bytes(block[at:at + size], "little")
-
-
-def sealed(block):
-    return block[:4] + struct.pack("<I", zlib.crc32(block[8:])) + block[8:]
-
-
-def bad_geometry(size, blocks, inodes, name, direct, indirect):
-    entries = (size - 32) // 4
-    return (size not in SIZES or blocks > 4194304 or not 1 <= inodes <= 65536
-            or name % 4 or not 12 <= name <= 252 or direct < 1 or direct + indirect > entries
-            or blocks < 3 + 2 * inodes + 3 or blocks - 3 > 8 * (size - 32))
-
-
-def header(block, letters):
-    if block[:4] != letters:
-        raise Fault("WrongSignature")
-    if number(4, 4, block) != zlib.crc32(block[8:]):
-        raise Fault("WrongWord")
-
-
-def field(at, holds):
-    if not holds:
-        raise Fault(f"WrongField({at})")
-
-
-def master(block):
-    header(block, b"MAST")
-    field(8, number(8, 8, block) == 0)
-    field(16, number(16, 4, block) == 1)
-    field(20, number(20, 8, block) == 0)
-    size = 2 ** block[46] if 9 <= block[46] <= 12 else 0
-    geometry = (size, number(36, 4, block), number(32, 4, block), number(40, 2, block),
-                number(42, 2, block), number(44, 2, block))
-    field(32, not bad_geometry(*geometry))
-    field(47, block[47] == 1)
-    field(48, not any(block[48:]))
-    return geometry, number(28, 4, block)
-
-
-def metaroot(geometry, block):
-    header(block, b"META")
-    field(28, number(28, 4, block) == 0)
-    bits = number(32, len(block) - 32, block)
-    field(32, bits >> (geometry[1] - 3) == 0)
-    return number(8, 8, block), number(16, 4, block), number(20, 4, block), number(24, 4, block), bits
-
-
-def inode(block):
-    header(block, b"INOD")
-    kind = number(24, 2, block)
-    field(24, kind in (1, 2))
-    field(26, number(26, 2, block) > 0)
-    field(28, kind == 2 or number(28, 4, block) == 0)
-    return kind, number(16, 8, block), number(26, 2, block), number(28, 4, block)
-
-
-class Fails(Exception):
-    """A call failed."""
-
-
-class Disk:
-    """The blocks of an image, with the candidates of each: first what reads give."""
-
-    def __init__(self, size, image, room, fails):
-        self.size, self.room, self.fails, self.calls, self.failed, self.more = size, room, fails, 0, False, 0
-        self.blocks = [[image[at:at + size]] for at in range(0, len(image) // size * size, size)]
-
-    def call(self):
-        self.calls += 1
-        return self.calls - 1 in self.fails
-
-    def fail(self):
-        self.failed = True
-        raise Fails
-
-    def read(self, b):
-        if self.call():
-            self.fail()
-        return self.blocks[b][0]
-
-    def write(self, b, block):
-        fails = self.call()
-        if self.more == self.room:
-            self.fail()
-        self.more += 1
-        if fails:
-            self.blocks[b].append(block)
-            self.fail()
-        self.blocks[b].append(self.blocks[b][0])
-        self.blocks[b][0] = block
-
-    def flush(self):
-        if self.call():
-            self.fail()
-        if not self.failed:
-            self.blocks, self.more = [candidates[:1] for candidates in self.blocks], 0
-
-    def shown(self):
-        return b"".join(candidates[0] for candidates in self.blocks)
-
-
-class Row:
-    def __init__(self):
-        self.script, self.moments = b"", []
-        self.fails = {"disk": [], "source": [], "sink": []}
-        self.room = {"disk": 8, "sink": 4096}
-        self.pieces = (2**64, 2**64)
-
-
-def order_of(words):
-    """The command, its block size and its numbers, or None where the words are refused."""
-    known = {"run": "b", "format": "bnmlai"}
-    if not words or words[0] not in known:
-        return None
-    options, images, rest = {}, [], list(words[1:])
-    while rest:
-        word = rest.pop(0)
-        if not word.startswith("-"):
-            images.append(word)
-            continue
-        if len(word) != 2 or word[1] not in known[words[0]] or word[1] in options or not rest:
-            return None
-        value = rest.pop(0)
-        if not value.isdigit() or (value[0] == "0" and value != "0") or int(value) >= 2**32:
-            return None
-        options[word[1]] = int(value)
-    size = options.get("b", 512)
-    if len(images) != 1 or images[0] == "" or size not in SIZES:
-        return None
-    if words[0] == "run":
-        return "run", size, None
-    if "n" not in options or "m" not in options:
-        return None
-    return "format", size, (size, options["n"], options["m"], options.get("l", 28), options.get("a", 4),
-                            options.get("i", 32))
-
-
-def node(letters, fields, size):
-    block = letters + bytes(4) + fields
-    return sealed(block + bytes(size - len(block)))
-
-
-def format_disk(disk, g, moment):
-    size, blocks, inodes = g[:3]
-    first = 3 + 2 * inodes
-    disk.write(0, bytes(size))
-    disk.flush()
-    disk.write(3, node(b"INOD", struct.pack("<QQHHI", 1, 0, 2, 1, 0), size))
-    disk.write(1, node(b"META", struct.pack("<QIIIII", 1, blocks - first, inodes - 1, first, 0, 1), size))
-    disk.write(2, bytes(size))
-    disk.flush()
-    log = size.bit_length() - 1
-    fields = struct.pack("<QIQIIIHHHBB", 0, 1, 0, moment, inodes, blocks, *g[3:], log, 1)
-    disk.write(0, node(b"MAST", fields, size))
-    disk.flush()
-
-
-def mount(disk):
-    """The reason, or the geometry and the bits of the live metaroot."""
-    if len(disk.blocks) < 3:
-        return 1, None, None
-    try:
-        g = master(disk.read(0))[0]
-    except Fault:
-        return 1, None, None
-    if g[0] != disk.size:
-        return 2, None, None
-    if g[1] > len(disk.blocks):
-        return 3, None, None
-    roots = []
-    for b in (1, 2):
-        try:
-            roots.append(metaroot(g, disk.read(b)))
-        except Fault:
-            pass
-    if not roots:
-        return 4, None, None
-    live = max(roots, key=lambda root: root[0])
-    if live[0] > 2**63:
-        return 5, None, None
-    used = [live[4] >> i & 1 for i in range(g[1] - 3)]
-    free = used[2 * g[2]:].count(0)
-    numbers = sum(not used[2 * i] and not used[2 * i + 1] for i in range(g[2]))
-    if (free, numbers) != live[1:3]:
-        return 7, None, None
-    return (8 if free <= 2 else None), g, used
-
-
-class Damaged(Exception):
-    pass
-
-
-def stat_root(disk, used):
-    if not used[0] and not used[1]:
-        raise Damaged(3, 6)
-    if used[0] and used[1]:
-        raise Damaged(3, 7)
-    place = 3 if used[0] else 4
-    try:
-        kind, size, links, _ = inode(disk.read(place))
-    except Fault as fault:
-        raise Damaged(place, {"WrongSignature": 1, "WrongWord": 2}.get(str(fault), 3)) from fault
-    return b"ok 2 %s %d %d\n" % (b"fd"[kind - 1:kind], size, links)
-
-
-class Run:
-    """One call of the program over objects in memory."""
-
-    def __init__(self, row, words, disk_of):
-        self.status, self.tail, self.commands, self.taken, self.output = 0, "", 0, 0, b""
-        self.row, self.writes, self.moments = row, 0, list(row.moments) or [0]
-        order = order_of(words)
-        self.disk = disk_of(order[1] if order else 512)
-        try:
-            if not order:
-                self.status = 2
-            elif order[0] == "run":
-                self.run()
-            else:
-                self.format(order[2])
-        except Fails:
-            self.status = 5
-
-    def write(self, reply):
-        """Whether the sink takes the whole reply."""
-        piece = max(1, self.row.pieces[1])
-        while reply:
-            call, self.writes = self.writes, self.writes + 1
-            room = self.row.room["sink"] - len(self.output)
-            if call in self.row.fails["sink"] or room == 0:
-                self.status = 4
-                return False
-            count = min(len(reply), piece, room)
-            self.output, reply = self.output + reply[:count], reply[count:]
-        return True
-
-    def format(self, g):
-        if bad_geometry(*g) or g[1] > len(self.disk.blocks):
-            self.status = 10
-            return
-        moment = self.moments[0]
-        self.moments = self.moments[1:] or self.moments
-        format_disk(self.disk, g, moment)
-        self.write(b"formatted %d\n" % (g[1] - 3 - 2 * g[2]))
-
-    def run(self):
-        reason, _, used = mount(self.disk)
-        if reason:
-            self.status, self.tail = 8, f" reason {reason}"
-            return
-        script, piece = self.row.script, min(65536, self.row.pieces[0])
-        # Reads come in turn while a line is not whole; the one that gives nothing is the end.
-        given, reads, end = 0, 0, False
-        while True:
-            while not end and b"\n" not in script[self.taken:given]:
-                if reads in self.row.fails["source"]:
-                    self.status = 3
-                    return
-                reads, end, given = reads + 1, given >= len(script), min(len(script), given + piece)
-            line, feed, _ = script[self.taken:].partition(b"\n")
-            if not line and not feed:
-                return
-            self.taken += len(line + feed)
-            try:
-                reply = stat_root(self.disk, used) if line == b"stat /" else b"bad\n"
-            except Damaged as damage:
-                self.status, self.tail = 6, " block %d kind %d" % damage.args
-                return
-            if not self.write(reply):
-                return
-            self.commands += 1
-
-    def fault_line(self):
-        return f"edge: status {self.status}{self.tail}\\0a" if self.status else ""
-
-    def told(self, calls=True):
-        text = f"  status {self.status}, commands {self.commands}, taken {self.taken}, points 0"
-        text += f", calls {self.disk.calls}" if calls else ""
-        text += f", next moment {self.moments[0]}" if self.row.moments else ""
-        yield text + (", " + self.fault_line() if self.status else "")
-        for line in self.output.splitlines(keepends=True):
-            whole = line.endswith(b"\n")
-            yield ("  < " if whole else "  <, without its line feed: ") + escaped(line[:-1] if whole else line)
-
-
-def escaped(text):
-    return "".join(chr(c) if 32 <= c < 127 and c != 92 else f"\\{c:02x}" for c in text)
-
-
-def unescaped(text):
-    parts = text.split("\\")
-    return parts[0].encode() + b"".join(bytes.fromhex(part[:2]) + part[2:].encode() for part in parts[1:])
-
+NUMBERS = [
+    ("NoEntry", 2), ("BadDescriptor", 9), ("Busy", 16), ("Exists", 17), ("CrossVolume", 18), ("NotDir", 20), ("IsDir", 21),
+    ("Invalid", 22), ("NoInodes", 23), ("TooManyOpen", 24), ("TooBig", 27), ("NoSpace", 28), ("TooManyLinks", 31),
+    ("NameTooLong", 36), ("NotEmpty", 39),
+    ("WrongSignature", 1), ("WrongWord", 2), ("WrongField", 3), ("WrongOwner", 4), ("WrongPointer", 5), ("NotUsed", 6),
+    ("TwoPlaces", 7), ("WrongSlot", 8), ("WrongShape", 9), ("Tangled", 10)]
 
 FAULTS = ["  edge_words: BadWords", "  edge_io: SourceFault SinkFault FolderFault", "  edge_disk: DeviceFault",
           "  edge_format: Device"]
@@ -479,6 +187,186 @@ class Table:
     def do_faults(self, row, text):
         return FAULTS
 
+    def do_numbers(self, row, text):
+        return [f"  {name} {n}" for name, n in NUMBERS]
+
+    def do_check_word(self, row, text):
+        yield f"  {zlib.crc32(row.script):08x}"
+
+    def do_words(self, row, text, *words):
+        order = order_of(words)
+        if order is None:
+            yield "  BadWords"
+            yield "  Attached { image: None, block_size: 512, make_blocks: None }"
+            return
+        name, size, g = order
+        rest = list(words[1:])
+        place = 1
+        while rest[place - 1].startswith("-"):
+            place += 2
+        image = words[place]
+        if g is None:
+            yield f'  Run {{ image: "{image}", block_size: {size} }}'
+        else:
+            names = ("block_size", "blocks", "inodes", "name_max", "direct", "indirect")
+            request = ", ".join(f"{name}: {n}" for name, n in zip(names, g))
+            yield f'  Format {{ image: "{image}", request: Request {{ {request} }} }}'
+        made = f"Some({g[1]})" if g and not bad_geometry(*g) else "None"
+        yield f"  Attached {{ image: Some({place}), block_size: {size}, make_blocks: {made} }}"
+
+    def do_geometry(self, row, text, *numbers):
+        size, blocks, inodes, name, direct, indirect, *indexes = map(int, numbers)
+        limit = bad_geometry(size, blocks, inodes, name, direct, indirect)
+        if limit:
+            yield f"  {limit}"
+            return
+        entries, inner = (size - 32) // 4, (size - 20) // 4
+        first = 3 + 2 * inodes
+        most = direct + indirect * inner + (entries - direct - indirect) * inner**2
+        yield (f"  inline true, imap nodes 0, table 3, root (3, 4) to {first - 1}, {blocks - first} allocable from {first}, "
+               f"files of {most} blocks, {most * size} bytes")
+        for index in indexes:
+            if index >= most:
+                continue
+            rest, wide = index - direct, indirect * inner
+            if index < direct:
+                way = f"Direct {{ entry: {index} }}"
+            elif rest < wide:
+                way = f"Single {{ entry: {direct + rest // inner}, place: {rest % inner} }}"
+            else:
+                rest -= wide
+                way = (f"Double {{ entry: {direct + indirect + rest // inner**2}, outer: {rest // inner % inner}, "
+                       f"place: {rest % inner} }}")
+            yield f"  block {index}: {way}"
+
+    def calls_of_disk(self, disk, calls, counted):
+        for call in calls:
+            if call[0] == "p":
+                pick = [int(n) for n in call[1:].split(",")]
+                there = len(pick) == len(disk.blocks) and all(n < len(c) for n, c in zip(pick, disk.blocks))
+                told = "".join(f" {c[n][0]:02x}" for n, c in zip(pick, disk.blocks)) if there else " none"
+                yield f"  {call}:{told}"
+                continue
+            b, _, byte = call[1:].partition(":")
+            try:
+                if call[0] == "f":
+                    disk.flush()
+                    told = "00"
+                elif call[0] == "r":
+                    told = f"{disk.read(int(b))[0]:02x}"
+                else:
+                    disk.write(int(b), bytes.fromhex(byte) * disk.size)
+                    told = byte
+            except Fails:
+                told = "DeviceFault"
+            if counted:
+                told += f", {disk.calls} calls, candidates" + "".join(f" {len(c)}" for c in disk.blocks)
+            yield f"  {call}: {told}"
+
+    @changes
+    def do_make_folder(self, row, path):
+        os.makedirs(path)
+
+    @changes
+    def do_make_file(self, row, name, content):
+        count, byte = content.split(":")
+        with open(name, "wb") as file:
+            file.write(bytes.fromhex(byte) * int(count))
+
+    @changes
+    def do_make_text(self, row, name, content):
+        with open(name, "w", encoding="ascii") as file:
+            file.write(content)
+
+    @changes
+    def do_make_link(self, row, target, name):
+        os.symlink(target, name)
+
+    @changes
+    def do_remove_file(self, row, name):
+        os.remove(name)
+
+    def do_host_disk(self, row, text, name, size, made, *calls):
+        disk = HostDisk(name, int(size), None if made == "-" else int(made))
+        yield f"  {disk.blocks} blocks"
+        for call in calls:
+            if call[0] == "t":
+                self.do_make_file(row, text, name, call[1:])
+                continue
+            yield from self.calls_of_disk(disk, [call], False)
+
+    def do_host_folder(self, row, text, name, *calls):
+        folder = HostFolder(name)
+        for call in calls:
+            if call[0] == "-":
+                os.remove(call[1:])
+            elif call[0] == "+":
+                self.do_make_text(row, text, call[1:], "made anew")
+            else:
+                yield f"  {call}: {folder.answer(call)}"
+
+    def do_host_streams(self, row, text, *answers):
+        plain = next((answer for answer in [*answers, "0"] if answer != "i"))
+        read = "SourceFault" if plain == "b" else f"read {min(3, int(plain))}"
+        written = "SinkFault" if plain in ("b", "0") else f"written {min(3, int(plain))}"
+        yield f"  {read}, {written}"
+
+    def do_host_clock(self, row, text, *answers):
+        last, told = 0, " "
+        for answer in [*answers, "-"]:
+            last = int(answer) if answer != "-" and int(answer) < 2**32 else last
+            told += f" {last}"
+        yield told
+
+    def do_host_now(self, row, text):
+        return ["  now: true"]
+
+    def do_disk(self, row, text, *calls):
+        disk = Disk(self.size, self.image, row.room["disk"], row.fails["disk"])
+        return self.calls_of_disk(disk, calls, True)
+
+    def do_sure_disk(self, row, text, *calls):
+        return self.calls_of_disk(Disk(self.size, self.image, 2**32, []), calls, False)
+
+    def do_source(self, row, text, *sizes):
+        left = row.script
+        for call, size in enumerate(sizes):
+            if call in row.fails["source"]:
+                yield f"  {size}: SourceFault"
+                continue
+            yield f"  {size}: {escaped(left[:int(size)])}"
+            left = left[int(size):]
+
+    def do_sink(self, row, text, *pieces):
+        taken = ""
+        for call, piece in enumerate(pieces):
+            room = row.room["sink"] - len(taken)
+            if call in row.fails["sink"] or (piece and not room):
+                yield f"  {piece}: SinkFault"
+                continue
+            taken += piece[:room]
+            yield f"  {piece}: {len(piece[:room])}"
+        if taken:
+            yield f"  <, without its line feed: {taken}"
+
+    def do_clock(self, row, text, count):
+        moments = row.moments or [0]
+        yield " " + "".join(f" {moments[min(n, len(moments) - 1)]}" for n in range(int(count)))
+
+    def do_folder(self, row, text, *calls):
+        items, left = [("Directory", "b", ""), ("File", "b/c", "xyz"), ("File", "a", "uvw")], ""
+        for number, call in enumerate(calls):
+            if number in row.fails["folder"]:
+                yield f"  {call}: FolderFault"
+            elif call == "bytes":
+                yield f"  bytes: {left[:2]}"
+                left = left[2:]
+            elif items:
+                kind, path, left = items.pop(0)
+                yield f"  next: {kind} {path}"
+            else:
+                yield "  next: none"
+
 
 def permitted(disk, loose):
     """Each choice of candidates, the first block's changing fastest, and each again with a torn block."""
@@ -502,10 +390,18 @@ def permitted(disk, loose):
 
 
 def main():
+    """Judges each row, in an empty folder of its own."""
     crate = os.path.join(os.path.dirname(os.path.abspath(__file__)), "..", "crates", "edge_rows")
     names = sys.argv[1:] or [os.path.join(crate, "stdin"), os.path.join(crate, "stdout")]
     rows, replies = (open(name, encoding="ascii").read().splitlines() for name in names)
-    table, judged, left, wrong, at = Table(crate), 0, 0, 0, 0
+    crate = os.path.abspath(crate)
+    with tempfile.TemporaryDirectory() as room:
+        os.chdir(room)
+        return judge(Table(crate), rows, replies)
+
+
+def judge(table, rows, replies):
+    judged, left, wrong, at = 0, 0, 0, 0
     for line in rows:
         assert replies[at] == line, f"line {at + 1} of the replies is not: {line}"
         at += 1

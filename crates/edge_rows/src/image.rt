@@ -7,7 +7,7 @@ use std::ops::Range;
 #[derive(Drop)]
 pub struct Image {
     pub bytes: Vec<u8>,
-    block_size: usize,
+    pub block_size: usize,
     kept: Vec<u8>,
 }
 

@@ -3,11 +3,15 @@
 #![tactic(auto)]
 
 mod cuts;
+mod disks;
+mod host;
 mod image;
 mod nodes;
 mod orders;
 mod pieces;
+mod places;
 mod row;
+mod streams;
 mod text;
 
 use crate::image::Image;

@@ -6,8 +6,8 @@ use anyhow::{Result, bail, ensure};
 use edge_base::Geometry;
 use edge_nodes::{bit_of, bits_of, decode_inode, decode_master, decode_metaroot, entry_of};
 
-// Whether so many bytes make a block.
-fn is_block_size(length: usize) -> bool
+/// Whether so many bytes make a block.
+pub fn is_block_size(length: usize) -> bool
     ensures { result ≡ is_block_size length }
 {
     length == 512 || length == 1024 || length == 2048 || length == 4096

@@ -1,5 +1,8 @@
-ghost use Rattle.std.specs.Prelude.{◌≡◌};
+ghost use Rattle.std.specs.Prelude.{◌≡◌, IfOk, IsTrue};
 ghost use Rattle.edge_app.specs.Orders.{HaveBlockSize};
+ghost use Rattle.edge_base.specs.layout.Sizes.{is_block_size};
+ghost use Rattle.edge_disk.specs.Memory.{origin_of};
+ghost use Rattle.edge_disk.specs.Sure.{origin_of as sure_origin_of};
 ghost use Rattle.edge_words.specs.Words.{words_of};
 
 use crate::pieces::{PieceSink, PieceSource};
@@ -22,6 +25,32 @@ pub struct Answer<D> {
     pub moment: u32,
 }
 
+/// A disk of the bytes of an image, of which these calls fail.
+pub fn memory_disk(
+    alloc: Global,
+    block_size: u32,
+    row: &Row,
+    image: &[u8],
+    fails: &[u64],
+) -> Result<MemoryDisk>
+    requires { IsTrue (is_block_size block_size) }
+    ensures { IfOk result (λ d. (origin_of d).block_size ≡ block_size) }
+{
+    ensure!(image.len() < 1 << 31, "a great image");
+    ensure!(row.disk_room < 1 << 31, "much room");
+    let room = row.disk_room as u32;
+    Ok(MemoryDisk::new(alloc, block_size, image, room, fails)?)
+}
+
+/// A disk of the bytes of an image that never fails.
+pub fn sure_disk(alloc: Global, block_size: u32, image: &[u8]) -> Result<SureDisk>
+    requires { IsTrue (is_block_size block_size) }
+    ensures { IfOk result (λ d. (sure_origin_of d).block_size ≡ block_size) }
+{
+    ensure!(image.len() < 1 << 31, "a great image");
+    Ok(SureDisk::new(alloc, block_size, image)?)
+}
+
 /// Calls `edge` with words, over a disk of the bytes of an image of which these calls fail.
 pub fn order(
     alloc: Global,
@@ -30,10 +59,7 @@ pub fn order(
     image: &[u8],
     fails: &[u64],
 ) -> Result<Answer<MemoryDisk>> {
-    ensure!(image.len() < 1 << 31, "a great image");
-    ensure!(row.disk_room < 1 << 31, "much room");
-    let room = row.disk_room as u32;
-    let disk = MemoryDisk::new(alloc, need(words).block_size, image, room, fails)?;
+    let disk = memory_disk(alloc, need(words).block_size, row, image, fails)?;
     Ok(call(alloc, row, words, disk)?)
 }
 
@@ -44,8 +70,7 @@ pub fn sure_order(
     words: &[&str],
     image: &[u8],
 ) -> Result<Answer<SureDisk>> {
-    ensure!(image.len() < 1 << 31, "a great image");
-    let disk = SureDisk::new(alloc, need(words).block_size, image)?;
+    let disk = sure_disk(alloc, need(words).block_size, image)?;
     Ok(call(alloc, row, words, disk)?)
 }
 
@@ -77,8 +102,8 @@ fn call<D: Disk + Drop>(
     })
 }
 
-// A clock of these moments, or of 0 alone.
-fn clock_of(alloc: Global, moments: &[u32]) -> Result<MemoryClock, AllocError> {
+/// A clock of these moments, or of 0 alone.
+pub fn clock_of(alloc: Global, moments: &[u32]) -> Result<MemoryClock, AllocError> {
     if moments.is_empty() {
         return MemoryClock::new(alloc, &[0]);
     }

@@ -1,12 +1,21 @@
 use crate::cuts::{push_cuts, shown};
+use crate::disks::{push_disk, push_sure_disk};
+use crate::host::{
+    change_host, push_host_clock, push_host_disk, push_host_folder, push_host_now,
+    push_host_streams,
+};
 use crate::image::Image;
 use crate::nodes::{push_block, push_node};
-use crate::orders::{order, push_answer, sure_order};
+use crate::orders::{clock_of, order, push_answer, sure_order};
+use crate::places::{push_geometry, push_numbers, push_words};
+use crate::streams::{push_clock, push_folder, push_sink, push_source};
 use crate::text::{byte, moments, number, numbers, push_faults, unescaped, word};
 use anyhow::{Context, Result, ensure};
+use edge_word::check_word;
 use std::alloc::{AllocError, Global};
 use std::fs;
-use std::rt::Files;
+use std::fs::File;
+use std::rt::{Clock, Files};
 
 /// What the statements of a line have set for its calls of `edge`.
 #[derive(Drop)]
@@ -15,6 +24,7 @@ pub struct Row {
     pub disk_fails: Vec<u64>,
     pub source_fails: Vec<u64>,
     pub sink_fails: Vec<u64>,
+    pub folder_fails: Vec<u64>,
     /// The most bytes that one call gives or takes.
     pub source_piece: usize,
     pub sink_piece: usize,
@@ -32,6 +42,7 @@ impl Row {
             disk_fails: Vec::new(alloc),
             source_fails: Vec::new(alloc),
             sink_fails: Vec::new(alloc),
+            folder_fails: Vec::new(alloc),
             source_piece: usize::MAX,
             sink_piece: usize::MAX,
             sink_room: 4096,
@@ -49,7 +60,11 @@ impl Row {
 }
 
 /// What the statements of a line answer.
-pub fn answer_row<R: Files + AllocGlobal>(rt: &R, image: &mut Image, line: &str) -> Result<String> {
+pub fn answer_row<R: Files<File = File> + AllocGlobal + Clock>(
+    rt: &R,
+    image: &mut Image,
+    line: &str,
+) -> Result<String> {
     let mut out = String::new(rt.alloc());
     let mut row = Row::new(rt.alloc());
     for text in line.split("; ") {
@@ -61,7 +76,10 @@ pub fn answer_row<R: Files + AllocGlobal>(rt: &R, image: &mut Image, line: &str)
         let is_done = change(rt, image, verb, rest)?
             || set(rt.alloc(), &mut row, verb, rest)?
             || write_script(rt.alloc(), &mut row, verb, text)?
-            || tell(rt.alloc(), &mut out, &row, image, verb, rest)?;
+            || tell(rt.alloc(), &mut out, &row, image, verb, rest)?
+            || tell_part(rt.alloc(), &mut out, &row, image, verb, rest)?
+            || change_host(rt, verb, rest)?
+            || tell_host(rt, &mut out, verb, rest)?;
         ensure!(is_done, "no statement: {text}");
     }
     Ok(out)
@@ -107,6 +125,7 @@ fn set(alloc: Global, row: &mut Row, verb: &str, words: &[&str]) -> Result<bool>
             match word(words, 0)? {
                 "disk" => row.disk_fails = calls,
                 "source" => row.source_fails = calls,
+                "folder" => row.folder_fails = calls,
                 _ => row.sink_fails = calls,
             }
         }
@@ -165,6 +184,52 @@ fn tell(
         "show" => push_block(out, image.block(number(words, 0)?)?)?,
         "master" | "metaroot" | "inode" => push_node(out, image, verb, number(words, 0)?)?,
         "faults" => push_faults(out)?,
+        _ => return Ok(false),
+    }
+    Ok(true)
+}
+
+// Appends what a part below `edge` answers, where this is such a statement.
+fn tell_part(
+    alloc: Global,
+    out: &mut String,
+    row: &Row,
+    image: &Image,
+    verb: &str,
+    words: &[&str],
+) -> Result<bool> {
+    match verb {
+        "words" => push_words(out, words)?,
+        "geometry" => push_geometry(out, words)?,
+        "numbers" => push_numbers(out)?,
+        "check_word" => writeln!(out, "  {:08x}", check_word(&row.script))?,
+        "disk" => push_disk(alloc, out, row, image, words)?,
+        "sure_disk" => push_sure_disk(alloc, out, image, words)?,
+        "source" => push_source(alloc, out, row, words)?,
+        "sink" => push_sink(alloc, out, row, words)?,
+        "clock" => {
+            let mut clock = clock_of(alloc, &row.moments)?;
+            push_clock(out, &mut clock, number(words, 0)?)?;
+        }
+        "folder" => push_folder(alloc, out, row, words)?,
+        _ => return Ok(false),
+    }
+    Ok(true)
+}
+
+// Appends what an adapter of the host answers, where this is such a statement.
+fn tell_host<R: Files<File = File> + AllocGlobal + Clock>(
+    rt: &R,
+    out: &mut String,
+    verb: &str,
+    words: &[&str],
+) -> Result<bool> {
+    match verb {
+        "host_disk" => push_host_disk(rt, out, words)?,
+        "host_folder" => push_host_folder(rt, out, words)?,
+        "host_streams" => push_host_streams(rt, out, words)?,
+        "host_clock" => push_host_clock(rt, out, words)?,
+        "host_now" => push_host_now(rt, out)?,
         _ => return Ok(false),
     }
     Ok(true)

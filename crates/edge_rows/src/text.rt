@@ -12,7 +12,12 @@ pub fn word<'a>(words: &[&'a str], place: usize) -> Result<&'a str> {
 
 /// The number that the word at a place says.
 pub fn number(words: &[&str], place: usize) -> Result<usize> {
-    Ok(word(words, place)?.parse::<u32>()? as usize)
+    Ok(number32(words, place)? as usize)
+}
+
+/// The same of 32 bits.
+pub fn number32(words: &[&str], place: usize) -> Result<u32> {
+    Ok(word(words, place)?.parse::<u32>()?)
 }
 
 /// The numbers that the words from the second on say.
