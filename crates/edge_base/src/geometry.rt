@@ -93,7 +93,8 @@ impl Geometry {
         Ok(Geometry { request: r })
     }
 
-    /// What the geometry was made of.
+    /// What the geometry was made of. A body whose proof needs the limits, and nothing else of this,
+    /// calls it too, as `let _within_limits = g.request();`.
     #[tactic(auto, unfolding(crate::specs::layout::Places::bad_geometry))]
     pub fn request(&self) -> Request
         ensures same { result ≡ self.now }
