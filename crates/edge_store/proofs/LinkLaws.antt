@@ -1,7 +1,7 @@
 -- Where a link leads: to a position of the node. In a node of a proper shape each link leads to a block of its form and owner.
-use Rattle.std.proofs.Common.{◌≡◌, ◌≢◌, ℕ, ◌+◌, ◌-◌, ◌*◌, ◌/◌, ◌%◌, ◌<◌, ◌≤◌, inl, inr, cond, ltb, true, List, None, refl, sym, ap, ◌∙◌, subst, arith}
-use Rattle.std.specs.Prelude.{slice_index}
-use Rattle.std.proofs.lemmas.Bool.{lt-ltb, le-ltb, cond-true, cond-false, cases_lt}
+use Rattle.std.proofs.Common.{◌≡◌, ◌≢◌, ℕ, ◌+◌, ◌-◌, ◌*◌, ◌/◌, ◌%◌, ◌<◌, ◌≤◌, Bool, inl, inr, cond, eqb, ltb, true, false, List, None, refl, sym, ap, ◌∙◌, subst, arith}
+use Rattle.std.specs.Prelude.{slice_index, ◌||◌}
+use Rattle.std.proofs.lemmas.Bool.{eqb-false, lt-ltb, le-ltb, cond-true, cond-false, cases_lt}
 use Rattle.std.proofs.lemmas.Nat.{div-mul-add, mod-mul-add}
 use Rattle.std.proofs.Math.Nat.{mul-le-mul_right}
 use Rattle.edge_base.specs.declared.form.Form.{Form}
@@ -9,10 +9,10 @@ use Rattle.edge_base.specs.declared.form.Form.TheVariants.{Plain, Indirect, Doub
 use Rattle.edge_base.specs.declared.geometry.Request.{Request}
 use Rattle.edge_base.specs.layout.Places.{entries_of, pointers_of}
 use Rattle.edge_base.specs.tree.Positions.{Position, has, positions_of, positions_of_form}
-use Rattle.edge_store.specs.View.{View, IsView, is_spot, entries_of_inode}
+use Rattle.edge_store.specs.View.{View, IsView, is_spot, is_link, is_allocable, entries_of_inode}
 use Rattle.edge_store.specs.Placed.{entry_at, pointer_at, double_block, indirect_block, data_block, block_at, HasPlaces}
 use Rattle.edge_store.specs.Damages.{damage_at, form_of_entry, form_under, IsLinked, by_entry, by_place}
-use Rattle.edge_store.proofs.ViewLaws.{no_damage_of}
+use Rattle.edge_store.proofs.ViewLaws.{used_of, no_damage_of}
 
 test_below : {A : Type 0} (a b : ℕ) (x y : A) → a < b → cond (ltb a b) x y ≡ x
 test_below a b x y h = cond-true (ltb a b) x y (lt-ltb a b h)
@@ -108,3 +108,11 @@ module _ (g : Request) (v : View) (n : ℕ) where
   -- so a block of it is misread nowhere
   pub misread_nowhere : (indices : List ℕ) → HasPlaces g v n indices → IsView g v → (form : Form) (b : ℕ) → IsLinked g v n form b → b ≢ 0 → damage_at v form n b ≡ None
   misread_nowhere indices places view form b linked some = no_damage_of v form n b (linked_is_spot indices places form b linked some)
+
+  -- and each link is absent or leads to an allocable block
+  pub link_is_good : (indices : List ℕ) → HasPlaces g v n indices → IsView g v → (form : Form) (b : ℕ) → IsLinked g v n form b → is_link g b ≡ true
+  link_is_good indices places view form b linked = by (eqb b 0) refl
+    where
+      by : (none : Bool) → eqb b 0 ≡ none → (none || is_allocable g b) ≡ true
+      by true e = refl
+      by false e = view.allocable b (used_of form (v.blocks b) n (linked_is_spot indices places form b linked (eqb-false b 0 e)))

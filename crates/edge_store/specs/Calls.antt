@@ -1,5 +1,5 @@
 -- What every call of a store does, whatever it is for, and which faults it may answer.
-use Rattle.std.specs.Prelude.{◌≡◌, ◌≢◌, ◌+◌, is_ok, Option, Some, None, Result, Err, OnOk, OnErr}
+use Rattle.std.specs.Prelude.{◌≡◌, ◌≢◌, ℕ, ◌+◌, is_ok, Option, Some, None, Result, Err, OnOk, OnErr}
 use Rattle.edge_base.specs.declared.damage.Damage.{Damage}
 use Rattle.edge_base.specs.declared.damage.DamageKind.TheVariants.{Tangled}
 use Rattle.edge_base.specs.outside.Faults.{TellsCause}
@@ -30,6 +30,19 @@ pub record KeepsPoint (old new : StoreState) : Type 0 where
 pub record KeepsWorking (old new : StoreState) : Type 0 where
   pub working : new.working ≡ old.working
   pub places : new.places ≡ old.places
+
+-- Each inode keeps its place.
+abbrev pub KeepsPlaces : StoreState → StoreState → Type 0
+KeepsPlaces old new = new.places ≡ old.places
+
+-- Each inode but that of number n keeps its place.
+abbrev pub KeepsPlacesBut : StoreState → StoreState → ℕ → Type 0
+KeepsPlacesBut old new n = (k : ℕ) → k ≢ n → new.places k ≡ old.places k
+
+-- the same of a number that was found, or of none
+abbrev pub KeepsPlacesButFound : StoreState → StoreState → Option ℕ → Type 0
+KeepsPlacesButFound old new (Some n) = KeepsPlacesBut old new n
+KeepsPlacesButFound old new None = KeepsPlaces old new
 
 -- a call that only reads
 abbrev pub Reads : {T : Type 0} → StoreState → StoreState → Result T StoreFault → Type 0

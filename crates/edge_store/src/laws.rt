@@ -12,7 +12,7 @@ ghost use Rattle.edge_store.specs.Damages.{damage_at, damage_of_inode, IsDamage,
 ghost use Rattle.edge_store.specs.Effects.{IsFresh, Taken, Copied, BlockDropped, InodeMade, InodeDropped};
 ghost use Rattle.edge_store.specs.Frames.{KeepsChain, KeepsPointers, IsNoNodeOf};
 ghost use Rattle.edge_store.specs.Placed.{block_at, data_block, follow, nodes_on, HasPlaces, IsOnce};
-ghost use Rattle.edge_store.specs.View.{View, Block, Inode, IsView, entries_of_inode, with_block, with_inode, is_allocable, is_number, is_spot, is_used, is_new, free_now, free_after, free_inodes};
+ghost use Rattle.edge_store.specs.View.{View, Block, Inode, IsView, entries_of_inode, with_block, with_inode, is_allocable, is_link, is_number, is_spot, is_used, is_new, free_now, free_after, free_inodes};
 
 /// A data block is where its way leads, and the pointer nodes above it are those on the way.
 pub fn blocks_lie_on_their_ways()
@@ -147,12 +147,14 @@ pub fn what_is_met_is_damage()
         → damage_at v form n b ≡ Some damage → IsDamage g places c v damage }
 {}
 
-/// In a node of a proper shape each link leads to a block of its form and owner. So nothing of it
-/// is misread.
+/// In a node of a proper shape each link is absent, or leads to an allocable block of its form and
+/// owner. So nothing of it is misread, and no pointer of it is wrong.
 pub fn links_of_a_shaped_node_hold()
-    ensures { (g : Request) (v : View) (n : ℕ) (indices : List ℕ) (form : Form) (b : ℕ)
+    ensures spot { (g : Request) (v : View) (n : ℕ) (indices : List ℕ) (form : Form) (b : ℕ)
         → HasPlaces g v n indices → IsLinked g v n form b → b ≢ 0
         → is_spot v form n b ≡ true }
+    ensures link { (g : Request) (v : View) (n : ℕ) (indices : List ℕ) (form : Form) (b : ℕ)
+        → IsView g v → HasPlaces g v n indices → IsLinked g v n form b → is_link g b ≡ true }
 {}
 
 /// No damage is met at a block exactly where it is used, and of the form and the owner.

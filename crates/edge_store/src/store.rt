@@ -2,7 +2,7 @@ ghost use Rattle.std.specs.Prelude.{◌≡◌, ◌≢◌, ◌<◌, ◌≤◌, �
 ghost use Rattle.edge_base.specs.declared.form.Form.TheVariants.{Plain};
 ghost use Rattle.edge_base.specs.layout.Places.{IsGeometry, entries_of, pointers_of, inode_place_of};
 ghost use Rattle.edge_base.specs.outside.Below.{SameBelow};
-ghost use Rattle.edge_store.specs.Calls.{Called, KeepsPoint, KeepsWorking, Reads, TakesPoint};
+ghost use Rattle.edge_store.specs.Calls.{Called, KeepsPoint, KeepsWorking, KeepsPlaces, KeepsPlacesBut, KeepsPlacesButFound, Reads, TakesPoint};
 ghost use Rattle.edge_store.specs.State.{StoreState, Told, IsLive, IsNumber, IsAllocable, IsLink, HasInode, IsNew, HasRoom, HasDamage};
 ghost use Rattle.edge_store.specs.Told.{MeetsInode, MeetsBlock, MeetsNone, IsHeadOf, IsPlaceOf, IsEntryOf, IsPointerOf, AreBytesOf, IsNewOf, AreFreeNow, AreFreeAfter, AreFreeInodes, SetsHead, SetsEntry, MakesInode, DropsInode, SetsPointer, SetsBytes, Takes, Copies, DropsBlock};
 ghost use Rattle.edge_store.specs.View.{IsView, is_head, is_head_or_none};
@@ -89,6 +89,7 @@ pub trait Store {
         ensures called { Called (state self.old) (state self.new) result }
         ensures point { KeepsPoint (state self.old) (state self.new) }
         ensures damage { MeetsInode (state self.old) (state self.new) n result }
+        ensures places { OnOk result (KeepsPlacesBut (state self.old) (state self.new) n) }
         ensures set { OnOk result (SetsHead (state self.old) (state self.new) n head) };
 
     /// An entry of an inode, 0 where it is absent.
@@ -116,6 +117,7 @@ pub trait Store {
         ensures called { Called (state self.old) (state self.new) result }
         ensures point { KeepsPoint (state self.old) (state self.new) }
         ensures damage { MeetsInode (state self.old) (state self.new) n result }
+        ensures places { OnOk result (KeepsPlacesBut (state self.old) (state self.new) n) }
         ensures set { OnOk result (SetsEntry (state self.old) (state self.new) n i to) };
 
     /// Gives the least number without an inode one with this head and no entries, and answers the
@@ -127,6 +129,7 @@ pub trait Store {
         ensures point { KeepsPoint (state self.old) (state self.new) }
         ensures undamaged { MeetsNone (state self.old) result }
         ensures number { IfOk result (λ found. IfSome found (IsNumber (state self.old))) }
+        ensures places { IfOk result (KeepsPlacesButFound (state self.old) (state self.new)) }
         ensures made { IfOk result (MakesInode (state self.old) (state self.new) head) };
 
     /// Takes a number its inode.
@@ -137,6 +140,7 @@ pub trait Store {
         ensures called { Called (state self.old) (state self.new) result }
         ensures point { KeepsPoint (state self.old) (state self.new) }
         ensures damage { MeetsInode (state self.old) (state self.new) n result }
+        ensures places { OnOk result (KeepsPlacesBut (state self.old) (state self.new) n) }
         ensures dropped { OnOk result (DropsInode (state self.old) (state self.new) n) };
 
     /// A pointer of a pointer node, 0 where it is absent.
@@ -167,6 +171,7 @@ pub trait Store {
         ensures called { Called (state self.old) (state self.new) result }
         ensures point { KeepsPoint (state self.old) (state self.new) }
         ensures damage { MeetsBlock (state self.old) (state self.new) s result }
+        ensures places { OnOk result (KeepsPlaces (state self.old) (state self.new)) }
         ensures set { OnOk result (SetsPointer (state self.old) (state self.new) s i to) };
 
     /// Reads bytes of a block, from byte `at` on.
@@ -197,6 +202,7 @@ pub trait Store {
         ensures called { Called (state self.old) (state self.new) result }
         ensures point { KeepsPoint (state self.old) (state self.new) }
         ensures damage { MeetsBlock (state self.old) (state self.new) s result }
+        ensures places { OnOk result (KeepsPlaces (state self.old) (state self.new)) }
         ensures set { OnOk result (SetsBytes (state self.old) (state self.new) s at bytes.now) };
 
     /// Takes a block that neither view uses, with nothing in it.
@@ -208,6 +214,7 @@ pub trait Store {
         ensures point { KeepsPoint (state self.old) (state self.new) }
         ensures undamaged { MeetsNone (state self.old) result }
         ensures block { IfOk result (IsAllocable (state self.old)) }
+        ensures places { OnOk result (KeepsPlaces (state self.old) (state self.new)) }
         ensures taken { IfOk result (Takes (state self.old) (state self.new) form owner) };
 
     /// Takes a block that neither view uses, with the content of another, and drops that one.
@@ -220,6 +227,7 @@ pub trait Store {
         ensures point { KeepsPoint (state self.old) (state self.new) }
         ensures damage { MeetsBlock (state self.old) (state self.new) s result }
         ensures block { IfOk result (IsAllocable (state self.old)) }
+        ensures places { OnOk result (KeepsPlaces (state self.old) (state self.new)) }
         ensures copied { IfOk result (Copies (state self.old) (state self.new) s) };
 
     /// Drops a block from the working view.
@@ -230,6 +238,7 @@ pub trait Store {
         ensures called { Called (state self.old) (state self.new) result }
         ensures point { KeepsPoint (state self.old) (state self.new) }
         ensures damage { MeetsBlock (state self.old) (state self.new) s result }
+        ensures places { OnOk result (KeepsPlaces (state self.old) (state self.new)) }
         ensures dropped { OnOk result (DropsBlock (state self.old) (state self.new) s) };
 
     /// Whether the working view uses a block and the last point does not.

@@ -1,4 +1,6 @@
-use Rattle.std.proofs.Common.{◌≡◌, ◌∙◌, ap, sym, [], true, refl, None}
+use Rattle.std.proofs.Common.{◌≡◌, ◌∙◌, ap, sym, [], true, refl, None, ℕ, false}
+use Rattle.edge_base.specs.declared.geometry.Request.{Request}
+use Rattle.edge_base.specs.layout.Places.{inode_place_of}
 use Rattle.edge_plain.specs.KeptView.{view_of}
 use Rattle.edge_plain.proofs.CountLaws.{as_number, copied_enough, counted_copied, moved}
 use Rattle.edge_plain.proofs.plain.PlainStoreStore.copy.Goals as goal
@@ -54,3 +56,6 @@ pub returns-clause-called : goal.returns-clause-called
 returns-clause-called c =
     let geometry : c.drop_block.new.self.geometry ≡ c.args.self.now.working.geometry = c.drop_block.ensures.geometry ∙ c.copy_block.ensures.geometry in
     called_ok _ _ _ (λ i. record { request = geometry i; tells = true; others = [] }) c.requires.live refl refl (λ h. h)
+
+pub returns-clause-places : goal.returns-clause-places
+returns-clause-places c = let at : Request → ℕ → ℕ = λ g n. inode_place_of g n false in ap at (c.drop_block.ensures.geometry ∙ c.copy_block.ensures.geometry)

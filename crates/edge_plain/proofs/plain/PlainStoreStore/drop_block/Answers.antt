@@ -1,4 +1,6 @@
-use Rattle.std.proofs.Common.{◌≡◌, ◌∙◌, not, true, min, refl, sym, ap, arith}
+use Rattle.std.proofs.Common.{◌≡◌, ◌∙◌, not, true, min, refl, sym, ap, arith, ℕ, false}
+use Rattle.edge_base.specs.declared.geometry.Request.{Request}
+use Rattle.edge_base.specs.layout.Places.{inode_place_of}
 use Rattle.edge_plain.specs.KeptView.{view_of}
 use Rattle.edge_plain.proofs.CountLaws.{as_number, counted_dropped, moved, free_now-few, free_after-few}
 use Rattle.edge_plain.proofs.EndLaws.{ended_with}
@@ -42,3 +44,6 @@ invariant_of-self-clause-counted c =
     let used : is_used v b ≡ true = used_of c.args.s.form (v.blocks b) c.args.s.owner (spot_of v c.args.s.form c.args.s.owner b (sym c.damage.ensures ∙ c.in_default.is)) in
     moved g c.drop_block.new.self.geometry c0 v v _ _ _ _ _ c.drop_block.ensures.geometry s.counted c0 w _ _ _ _ _
     (counted_dropped g c0 v w _ _ _ _ _ s.counted b c.min-self.result used c.requires.block c.drop_block.ensures.view c.min-self.ensures c.from.result (c.from.ensures ∙ as_number _ _ (ap not c.is_used.ensures)))
+
+pub returns-clause-places : goal.returns-clause-places
+returns-clause-places c = let at : Request → ℕ → ℕ = λ g n. inode_place_of g n false in ap at (c.drop_block.ensures.geometry)
