@@ -9,8 +9,6 @@ mod geometry;
 mod laws;
 mod node;
 mod refusal;
-#[cfg(test)]
-mod tests;
 mod way;
 
 pub use damage::{Damage, DamageKind};

@@ -10,6 +10,3 @@ mod sure;
 pub use disk::{DeviceFault, Disk};
 pub use memory::MemoryDisk;
 pub use sure::SureDisk;
-
-#[cfg(test)]
-mod tests;

@@ -7,8 +7,6 @@ mod disk;
 mod faults;
 mod folder;
 mod streams;
-#[cfg(test)]
-mod tests;
 mod transfer;
 
 pub use clock::HostClock;

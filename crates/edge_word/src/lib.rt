@@ -5,9 +5,6 @@
 ghost use Rattle.std.specs.Prelude.{◌≡◌, ℕ};
 ghost use Rattle.edge_base.specs.layout.Word.{after_byte, check_word_of};
 
-#[cfg(test)]
-mod tests;
-
 // What eight steps make of each byte. A step shifts right by one and, where the bit shifted out was
 // one, adds the polynomial 0xEDB88320 by exclusive-or.
 static STEPS: [u32; 256] = [

@@ -6,8 +6,6 @@ mod attached;
 mod number;
 mod options;
 mod order;
-#[cfg(test)]
-mod tests;
 
 pub use attached::{Attached, need};
 pub use order::{BadWords, Order, one_order, read_words};
