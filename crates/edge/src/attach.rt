@@ -29,7 +29,8 @@ impl<'a> Attachment<'a> {
 
     /// What is attached for the words behind the program's name.
     pub fn of_words(words: &'a [&'a str]) -> Attachment<'a>
-        ensures spelled { (wanted : Wanted) → Spells (words_of words.now) wanted → IsFor wanted result }
+        ensures spelled { (wanted : Wanted) → Spells (words_of words.now) wanted
+            → IsFor wanted result }
         ensures refused { ((wanted : Wanted) → ¬ (Spells (words_of words.now) wanted))
             → result ≡ nothing }
         ensures size { IsTrue (is_block_size result.block_size) }
@@ -52,7 +53,8 @@ pub fn open_disk(files: &impl Files<File = File>, a: Attachment<'_>) -> HostDisk
     requires { IsTrue (is_block_size a.block_size) }
     ensures block_size { (origin_of result).block_size ≡ a.entry.block_size }
     ensures no_file { IsNone a.entry.image → (origin_of result).blocks ≡ 0 }
-    ensures made { IfSome a.entry.make_blocks (λ n. ((origin_of result).blocks ≡ 0) ⊎ (n ≤ (origin_of result).blocks)) }
+    ensures made { IfSome a.entry.make_blocks (λ n. ((origin_of result).blocks ≡ 0)
+        ⊎ (n ≤ (origin_of result).blocks)) }
     ensures faults { faults_of result ≡ 0 }
 {
     HostDisk::open(files, a.image, a.block_size, a.make_blocks)

@@ -74,7 +74,8 @@ impl HostDisk {
         requires { IsTrue (is_block_size block_size) }
         ensures block_size { (origin_of result).block_size ≡ block_size }
         ensures no_file { IsNone path.entry → (origin_of result).blocks ≡ 0 }
-        ensures made { IfSome make_blocks (λ n. ((origin_of result).blocks ≡ 0) ⊎ (n ≤ (origin_of result).blocks)) }
+        ensures made { IfSome make_blocks (λ n. ((origin_of result).blocks ≡ 0)
+            ⊎ (n ≤ (origin_of result).blocks)) }
         ensures faults { faults_of result ≡ 0 }
     {
         let least = u64::from(make_blocks.unwrap_or(0)) * u64::from(block_size);
@@ -160,7 +161,8 @@ impl Disk for HostDisk {
         requires whole { length out.old ≡ (origin_of self.old).block_size }
         ensures origin { origin_of self.new ≡ origin_of self.old }
         ensures cause { HasCause (faults_of self.old) (faults_of self.new) result }
-        ensures counted { OnErr result (faults_of self.new ≡ min (faults_of self.old + 1) (2 ^ 64 - 1)) }
+        ensures counted { OnErr result (faults_of self.new
+            ≡ min (faults_of self.old + 1) (2 ^ 64 - 1)) }
         ensures sync_failed { sync_failed_of self.new ≡ sync_failed_of self.old }
     {
         let place = self.place(b);
@@ -176,7 +178,8 @@ impl Disk for HostDisk {
         requires whole { length bytes.now ≡ (origin_of self.old).block_size }
         ensures origin { origin_of self.new ≡ origin_of self.old }
         ensures cause { HasCause (faults_of self.old) (faults_of self.new) result }
-        ensures counted { OnErr result (faults_of self.new ≡ min (faults_of self.old + 1) (2 ^ 64 - 1)) }
+        ensures counted { OnErr result (faults_of self.new
+            ≡ min (faults_of self.old + 1) (2 ^ 64 - 1)) }
         ensures sync_failed { sync_failed_of self.new ≡ sync_failed_of self.old }
     {
         let place = self.place(b);
@@ -191,7 +194,8 @@ impl Disk for HostDisk {
     fn flush(&mut self) -> Result<(), DeviceFault>
         ensures origin { origin_of self.new ≡ origin_of self.old }
         ensures cause { HasCause (faults_of self.old) (faults_of self.new) result }
-        ensures counted { OnErr result (faults_of self.new ≡ min (faults_of self.old + 1) (2 ^ 64 - 1)) }
+        ensures counted { OnErr result (faults_of self.new
+            ≡ min (faults_of self.old + 1) (2 ^ 64 - 1)) }
         ensures failed { IsErr result → IsTrue (sync_failed_of self.new) }
         ensures stays { IsTrue (sync_failed_of self.old) → IsErr result }
     {

@@ -43,7 +43,8 @@ impl<R: Read> Source for HostSource<R> {
 
         // Beyond the trait's clauses, where std tells the bytes of the reader.
         ensures given { IfOk result (λ n. Consumes (left_of R.remaining self.old) (left_of R.remaining self.new) (take n out.new)) }
-        ensures end { IfOk result (λ n. n ≡ 0 → 0 < length out.old → IsAtEnd (left_of R.remaining self.new)) }
+        ensures end { IfOk result (λ n. n ≡ 0 → 0 < length out.old
+            → IsAtEnd (left_of R.remaining self.new)) }
         ensures failed { OnErr result (Keeps (left_of R.remaining self.old) (left_of R.remaining self.new)) }
     {
         let answer = read_some(&mut self.input, out);

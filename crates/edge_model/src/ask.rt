@@ -75,20 +75,24 @@ pub trait Ask {
         ensures origin { origin self.new ≡ origin self.old }
         ensures live { live self.new ≡ is_ok result }
         ensures cause { TellsCause damage_of result (faults self.old) (faults self.new) (damage self.old) (damage self.new) }
-        ensures undamaged { (s : State) → stands_for self.old s → (d : Damage) → result ≡ Err (Damaged d) → ⊥ }
+        ensures undamaged { (s : State) → stands_for self.old s → (d : Damage)
+            → result ≡ Err (Damaged d) → ⊥ }
         ensures never_falls { reached self.old ≤ reached self.new }
         ensures two_points { reached self.new ≤ reached self.old + 2 }
         ensures mask { OnOk result (mask self.new ≡ mask_after (mask self.old) (asked c.entry)) }
         ensures mask_stays { may_set_mask (asked c.entry) ≡ false → mask self.new ≡ mask self.old }
         ensures opens { IfOk result (λ a. OpensAfter (asked c.entry) a (opens self.old) (opens self.new)) }
-        ensures opens_stay { may_open_or_close (asked c.entry) ≡ false → opens self.new ≡ opens self.old }
+        ensures opens_stay { may_open_or_close (asked c.entry) ≡ false
+            → opens self.new ≡ opens self.old }
         ensures told { IfOk result (λ a. IsInBuffer a) }
         ensures whole_buffer { length out.new ≡ length out.old }
-        ensures answer { IfOk result (λ a. (s : State) → stands_for self.old s → told_by a out.new ≡ (step (origin self.old).request s (asked c.entry)).answer) }
+        ensures answer { IfOk result (λ a. (s : State) → stands_for self.old s
+            → told_by a out.new ≡ (step (origin self.old).request s (asked c.entry)).answer) }
         ensures come { (s : State) → stands_for self.old s → HasCome result (stands_for self.new) (step (origin self.old).request s (asked c.entry)).state (step (origin self.old).request s (asked c.entry)).points (reached self.old) (reached self.new) }
         ensures trees { (s : State) → stands_for self.old s → IsAt (committed self.new) (under_way self.new) (torn self.new) (s.committed ∷ (step (origin self.old).request s (asked c.entry)).points) (reached self.new - reached self.old) }
         ensures quiet { is_clean self.old → is_quiet (mask self.old) (asked c.entry) ≡ true → SameBelow (may_hold self.old) (may_hold self.new) (is_sure self.old) (is_sure self.new) }
-        ensures clean { is_clean self.old → is_quiet (mask self.old) (asked c.entry) ≡ true → OnOk result (is_clean self.new) };
+        ensures clean { is_clean self.old → is_quiet (mask self.old) (asked c.entry) ≡ true
+            → OnOk result (is_clean self.new) };
 
     /// Ends the session with the point that the mask may ask for.
     fn finish(&mut self) -> Result<(), AskFault>
@@ -97,7 +101,8 @@ pub trait Ask {
         ensures origin { origin self.new ≡ origin self.old }
         ensures live { live self.new ≡ is_ok result }
         ensures cause { TellsCause damage_of result (faults self.old) (faults self.new) (damage self.old) (damage self.new) }
-        ensures undamaged { (s : State) → stands_for self.old s → (d : Damage) → result ≡ Err (Damaged d) → ⊥ }
+        ensures undamaged { (s : State) → stands_for self.old s → (d : Damage)
+            → result ≡ Err (Damaged d) → ⊥ }
         ensures never_falls { reached self.old ≤ reached self.new }
         ensures one_point { reached self.new ≤ reached self.old + 1 }
         ensures mask { mask self.new ≡ mask self.old }
@@ -108,5 +113,6 @@ pub trait Ask {
     // A live object has no point under way, and its last point is that of its state.
     ghost live_is_whole: { (x : Self) → live x ≡ true → torn x ≡ false };
 
-    ghost live_is_committed: { (x : Self) (s : State) → live x ≡ true → stands_for x s → committed x s.committed };
+    ghost live_is_committed: { (x : Self) (s : State) → live x ≡ true → stands_for x s
+        → committed x s.committed };
 }
