@@ -26,8 +26,8 @@ pub fn room_comes_last()
     ensures room { (g : Request) (s : State) (command : Asked) (p : Plan) (e : Edit)
         → plan g s command ≡ Ok p → p.edit ≡ Some e
         → ((step g s command).answer ≡ Err NoSpace)
-            ↔ ((fits g s e ≡ false)
-            × ((gains_by_point g s ≡ false) ⊎ (fits g (point_taken s) e ≡ false))) }
+        ↔ ((fits g s e ≡ false)
+        × ((gains_by_point g s ≡ false) ⊎ (fits g (point_taken s) e ≡ false))) }
 {}
 
 /// A step takes at most two points, and the committed tree is that of the last one.
