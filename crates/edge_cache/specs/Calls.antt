@@ -1,8 +1,9 @@
 -- What the calls of a cache do. What its disk means is told by the members of its trait.
-use Rattle.std.specs.Prelude.{◌≡◌, ◌≢◌, ◌<◌, ℕ, List, Option, length, Contains, IsTrue}
+use Rattle.std.specs.Prelude.{◌≡◌, ◌≢◌, ◌<◌, ℕ, ◌-◌, List, [], ◌∷◌, Option, length, Contains, IsTrue}
 use Rattle.edge_base.specs.outside.Below.{SameBelow}
-use Rattle.edge_cache.specs.Cached.{Cached, content, IsClean, list_of, KeepsListed}
-use Rattle.edge_cache.specs.Given.{waiting, except, GivesUp}
+use Rattle.edge_cache.specs.Cached.{Cached, content, IsClean, list_of, most_held, KeepsListed}
+use Rattle.edge_cache.specs.Places.{kept_at}
+use Rattle.edge_cache.specs.Given.{waiting, except, GivesUp, Writes}
 use Rattle.edge_disk.specs.declared.disk.Disk.{Ghosts}
 
 module _ {D : Type 0} (g : Ghosts D) where
@@ -47,3 +48,8 @@ module _ {D : Type 0} (g : Ghosts D) where
   pub record StaysClean (old new : Cached D) : Type 0 where
     pub clean : IsClean new.held
     pub candidates : SameBelow (g.may_hold old.disk) (g.may_hold new.disk) (g.is_sure old.disk) (g.is_sure new.disk)
+
+  -- Of the disk no more has changed than a write of what waits of the block used longest ago, where the list is full.
+  abbrev pub WritesLast : Cached D → Cached D → Type 0
+  WritesLast old new = Writes (waiting (kept_at old.held (most_held - 1) ∷ [])) (g.shown old.disk) (g.shown new.disk)
+      (g.may_hold old.disk) (g.may_hold new.disk) (g.is_sure old.disk) (g.is_sure new.disk)

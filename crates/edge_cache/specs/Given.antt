@@ -30,3 +30,12 @@ pub record GivesUp (shows : Bool) (w_old w_new : ℕ → Option (List ℕ)) (sho
   pub stays : (k : ℕ) (c : List ℕ) → w_old k ≡ None → may_old k c → may_new k c
   pub sure : (k : ℕ) → w_old k ≡ None → sure_new k → sure_old k
   pub sure_stays : (k : ℕ) → w_old k ≡ None → sure_old k → sure_new k
+
+-- What waits, as `w` tells it, may have been written, each to its block, and nothing else of the disk has changed.
+pub record Writes (w : ℕ → Option (List ℕ)) (shown_old shown_new : ℕ → List ℕ) (may_old may_new : ℕ → List ℕ → Type 0)
+    (sure_old sure_new : ℕ → Type 0) : Type 0 where
+  pub shown : (k : ℕ) → (shown_new k ≡ shown_old k) ⊎ (w k ≡ Some (shown_new k))
+  pub adds : (k : ℕ) (c : List ℕ) → may_new k c → may_old k c ⊎ (w k ≡ Some c)
+  pub stays : (k : ℕ) (c : List ℕ) → w k ≡ None → may_old k c → may_new k c
+  pub sure : (k : ℕ) → w k ≡ None → sure_new k → sure_old k
+  pub sure_stays : (k : ℕ) → w k ≡ None → sure_old k → sure_new k

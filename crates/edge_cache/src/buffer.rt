@@ -1,4 +1,4 @@
-ghost use Rattle.std.specs.Prelude.{◌≡◌, ◌<◌, ◌≤◌, ◌+◌, ℕ, List, true, false, length, [], ◌∷◌, slice_range, IfOk, IfSome, OnOk, OnErr, IsTrue};
+ghost use Rattle.std.specs.Prelude.{◌≡◌, ◌<◌, ◌≤◌, ◌+◌, ℕ, List, true, false, length, [], ◌∷◌, slice_range, IfOk, IfSome, OnOk, OnErr, IsOk, IsTrue};
 ghost use Rattle.edge_base.specs.outside.Below.{SameBelow};
 ghost use Rattle.edge_base.specs.outside.Faults.{HasCause};
 ghost use Rattle.edge_cache.specs.Blocks.{put_at, sealed, marked, changed_by, given_bytes, word_holds_in};
@@ -258,6 +258,7 @@ impl Buffer {
         requires whole { length self.old.bytes ≡ (D.origin disk.old).block_size }
         ensures origin { D.origin disk.new ≡ D.origin disk.old }
         ensures cause { HasCause (D.faults disk.old) (D.faults disk.new) result }
+        ensures idle { self.old.changed ≡ false → IsOk result }
         ensures done { OnOk result (self.new ≡ made self.old.block self.old.bytes false) }
         ensures kept { OnErr result (self.new ≡ self.old) }
         ensures gives { GivesUp (D.origin disk.old).shows

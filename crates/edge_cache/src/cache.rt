@@ -3,7 +3,7 @@ ghost use Rattle.edge_base.specs.outside.Below.{SameBelow};
 ghost use Rattle.edge_base.specs.outside.Faults.{HasCause};
 ghost use Rattle.edge_cache.specs.Blocks.{changed_by, blank, given_bytes, marked, word_holds_in};
 ghost use Rattle.edge_cache.specs.Cached.{IsClean, list_of, used_last, Lists};
-ghost use Rattle.edge_cache.specs.Calls.{content_in, HasWholeBlocks, KeepsContents, Gives, OnlyGivesUp, OnlyChanges, StaysClean};
+ghost use Rattle.edge_cache.specs.Calls.{content_in, HasWholeBlocks, KeepsContents, Gives, OnlyGivesUp, OnlyChanges, StaysClean, WritesLast};
 ghost use Rattle.edge_cache.specs.Given.{waiting};
 ghost use Rattle.edge_cache.specs.Kept.{made};
 ghost use Rattle.edge_cache.specs.Places.{kept_at, blocks_of, IsNew};
@@ -70,6 +70,7 @@ impl<D: Disk> Cache<D> {
         ensures only { OnlyGivesUp D.Disk self.old self.new }
         ensures clean { IsClean self.old.held → StaysClean D.Disk self.old self.new }
         ensures whole { HasWholeBlocks D.Disk self.old }
+        ensures last { WritesLast D.Disk self.old self.new }
     {
         self.reach(b)?;
         self.shelf.read_first(at as usize, out);
@@ -87,6 +88,8 @@ impl<D: Disk> Cache<D> {
         ensures bytes { IsTrue (D.origin self.old.disk).shows → OnOk result
             (waiting self.new.held b
             ≡ Some (changed_by at bytes.now node (content_in D.Disk self.old b))) }
+        ensures unread { length bytes.now ≡ (D.origin self.old.disk).block_size
+            → (kept_at self.old.held (BUFFERS - 1)).changed ≡ false → IsOk result }
         ensures word { IsTrue node
             → OnOk result (IsTrue (word_holds_in (content_in D.Disk self.new b))) }
 
@@ -96,6 +99,7 @@ impl<D: Disk> Cache<D> {
         ensures changes { OnOk result (OnlyChanges D.Disk b self.old self.new) }
         ensures fault { OnErr result (OnlyGivesUp D.Disk self.old self.new) }
         ensures whole { HasWholeBlocks D.Disk self.old }
+        ensures last { WritesLast D.Disk self.old self.new }
     {
         if bytes.len() == self.disk.block_size() as usize {
             return self.put(b, Some(bytes), node);
@@ -109,6 +113,7 @@ impl<D: Disk> Cache<D> {
         requires in_range { b < (D.origin self.old.disk).blocks }
         ensures origin { D.origin self.new.disk ≡ D.origin self.old.disk }
         ensures cause { HasCause (D.faults self.old.disk) (D.faults self.new.disk) result }
+        ensures unread { (kept_at self.old.held (BUFFERS - 1)).changed ≡ false → IsOk result }
         ensures bytes { OnOk result
             (waiting self.new.held b ≡ Some (blank (D.origin self.old.disk).block_size node)) }
         ensures word { IsTrue node
@@ -120,6 +125,7 @@ impl<D: Disk> Cache<D> {
         ensures changes { OnOk result (OnlyChanges D.Disk b self.old self.new) }
         ensures fault { OnErr result (OnlyGivesUp D.Disk self.old self.new) }
         ensures whole { HasWholeBlocks D.Disk self.old }
+        ensures last { WritesLast D.Disk self.old self.new }
     {
         self.put(b, None, node)
     }
@@ -138,6 +144,7 @@ impl<D: Disk> Cache<D> {
         ensures only { OnlyGivesUp D.Disk self.old self.new }
         ensures clean { IsClean self.old.held → StaysClean D.Disk self.old self.new }
         ensures whole { HasWholeBlocks D.Disk self.old }
+        ensures last { WritesLast D.Disk self.old self.new }
     {
         self.reach(b)?;
         Ok(self.shelf.word_first())
@@ -196,6 +203,7 @@ impl<D: Disk> Cache<D> {
         ensures only { OnlyGivesUp D.Disk self.old self.new }
         ensures clean { IsClean self.old.held → StaysClean D.Disk self.old self.new }
         ensures whole { HasWholeBlocks D.Disk self.old }
+        ensures last { WritesLast D.Disk self.old self.new }
     {
         if let Some(p) = self.shelf.find(b) {
             self.hit(p);
@@ -232,6 +240,7 @@ impl<D: Disk> Cache<D> {
             ((kept_at self.new.held 0).bytes ≡ content_in D.Disk self.old b) }
         ensures list { Lists b result (list_of self.old.held) (list_of self.new.held) }
         ensures only { OnlyGivesUp D.Disk self.old self.new }
+        ensures last { WritesLast D.Disk self.old self.new }
     {
         self.make_room()?;
         self.bring(b)?;
@@ -242,11 +251,13 @@ impl<D: Disk> Cache<D> {
     fn make_room(&mut self) -> Result<(), DeviceFault>
         ensures origin { D.origin self.new.disk ≡ D.origin self.old.disk }
         ensures cause { HasCause (D.faults self.old.disk) (D.faults self.new.disk) result }
+        ensures unread { (kept_at self.old.held (BUFFERS - 1)).changed ≡ false → IsOk result }
         ensures room { OnOk result (length self.new.held < BUFFERS) }
         ensures list { OnOk result
             (list_of self.new.held ≡ take (BUFFERS - 1) (list_of self.old.held)) }
         ensures fault { OnErr result (list_of self.new.held ≡ list_of self.old.held) }
         ensures only { OnlyGivesUp D.Disk self.old self.new }
+        ensures last { WritesLast D.Disk self.old self.new }
     {
         if self.shelf.len() == BUFFERS {
             self.shelf.write_at(&mut self.disk, BUFFERS - 1)?;
@@ -293,6 +304,7 @@ impl<D: Disk> Cache<D> {
         ensures changes { OnOk result (OnlyChanges D.Disk b self.old self.new) }
         ensures fault { OnErr result (OnlyGivesUp D.Disk self.old self.new) }
         ensures whole { HasWholeBlocks D.Disk self.old }
+        ensures last { WritesLast D.Disk self.old self.new }
     {
         self.reach(b)?;
         self.shelf.write_first(at as usize, bytes, node);
@@ -305,6 +317,7 @@ impl<D: Disk> Cache<D> {
         requires whole { IfSome bytes (λ s. length s.now ≡ (D.origin self.old.disk).block_size) }
         ensures origin { D.origin self.new.disk ≡ D.origin self.old.disk }
         ensures cause { HasCause (D.faults self.old.disk) (D.faults self.new.disk) result }
+        ensures unread { (kept_at self.old.held (BUFFERS - 1)).changed ≡ false → IsOk result }
         ensures bytes { OnOk result (waiting self.new.held b
             ≡ Some (marked node (given_bytes (D.origin self.old.disk).block_size bytes.entry))) }
         ensures word { IsTrue node
@@ -314,6 +327,7 @@ impl<D: Disk> Cache<D> {
         ensures changes { OnOk result (OnlyChanges D.Disk b self.old self.new) }
         ensures fault { OnErr result (OnlyGivesUp D.Disk self.old self.new) }
         ensures whole { HasWholeBlocks D.Disk self.old }
+        ensures last { WritesLast D.Disk self.old self.new }
     {
         if let Some(p) = self.shelf.find(b) {
             self.put_held(p, b, bytes, node);

@@ -1,8 +1,8 @@
-ghost use Rattle.std.specs.Prelude.{◌≡◌, ◌≢◌, ◌<◌, ◌≤◌, ◌+◌, ◌-◌, ℕ, [], ◌∷◌, false, true, length, take, set, slice_index, remove, slice_range, IfOk, IfSome, IfNone, OnOk, OnErr, IsTrue};
+ghost use Rattle.std.specs.Prelude.{◌≡◌, ◌≢◌, ◌<◌, ◌≤◌, ◌+◌, ◌-◌, ℕ, [], ◌∷◌, false, true, length, take, set, slice_index, remove, slice_range, IfOk, IfSome, IfNone, OnOk, OnErr, IsOk, IsTrue};
 ghost use Rattle.edge_base.specs.outside.Below.{SameBelow};
 ghost use Rattle.edge_base.specs.outside.Faults.{HasCause};
 ghost use Rattle.edge_cache.specs.Blocks.{changed_by, given_bytes, marked, word_holds_in};
-ghost use Rattle.edge_cache.specs.Given.{GivesUp, waiting};
+ghost use Rattle.edge_cache.specs.Given.{GivesUp, waiting, Writes};
 ghost use Rattle.edge_cache.specs.Kept.{made};
 ghost use Rattle.edge_cache.specs.Places.{kept_at, blocks_of, fronted, AllApart, AllHave};
 
@@ -114,9 +114,13 @@ impl Shelf {
         ensures origin { D.origin disk.new ≡ D.origin disk.old }
         ensures cause { HasCause (D.faults disk.old) (D.faults disk.new) result }
         ensures size { self.new.size ≡ self.old.size }
+        ensures idle { (kept_at self.old.list p).changed ≡ false → IsOk result }
         ensures done { OnOk result (self.new.list ≡ set self.old.list p
             (made (kept_at self.old.list p).block (kept_at self.old.list p).bytes false)) }
         ensures kept { OnErr result (self.new.list ≡ self.old.list) }
+        ensures writes { Writes (waiting (kept_at self.old.list p ∷ []))
+            (D.shown disk.old) (D.shown disk.new) (D.may_hold disk.old) (D.may_hold disk.new)
+            (D.is_sure disk.old) (D.is_sure disk.new) }
         ensures gives { GivesUp (D.origin disk.old).shows
             (waiting self.old.list) (waiting self.new.list) (D.shown disk.old) (D.shown disk.new)
             (D.may_hold disk.old) (D.may_hold disk.new) (D.is_sure disk.old) (D.is_sure disk.new) }
