@@ -33,7 +33,7 @@ fn places_of(geometry: &Geometry) -> [u32; 8] {
 
 #[test]
 fn tells_the_places(rt: HostRuntime) {
-    let told: [([u32; 6], [u32; 8], u64); 6] = [
+    let told: [([u32; 6], [u32; 8], u64); 14] = [
         (
             [512, 64, 8, 28, 4, 32],
             [0, 3, 3, 4, 18, 19, 45, 1_274_776],
@@ -60,13 +60,65 @@ fn tells_the_places(rt: HostRuntime) {
             [0, 3, 3, 4, 32_002, 32_003, 512, 1_017_626_392],
             4_168_197_701_632,
         ),
+        // the last with its bitmap in the metaroot, and those with imap nodes
+        (
+            [512, 3844, 8, 28, 4, 32],
+            [1, 5, 5, 6, 20, 21, 3823, 1_274_776],
+            652_685_312,
+        ),
+        (
+            [512, 100_000, 8, 28, 4, 32],
+            [26, 55, 55, 56, 70, 71, 99_929, 1_274_776],
+            652_685_312,
+        ),
+        (
+            [512, 4_194_304, 65_536, 28, 4, 32],
+            [
+                1057, 2117, 2117, 2118, 133_188, 133_189, 4_061_115, 1_274_776,
+            ],
+            652_685_312,
+        ),
+        (
+            [1024, 7939, 8, 28, 4, 32],
+            [0, 3, 3, 4, 18, 19, 7920, 13_364_248],
+            13_684_989_952,
+        ),
+        (
+            [1024, 7940, 8, 28, 4, 32],
+            [1, 5, 5, 6, 20, 21, 7919, 13_364_248],
+            13_684_989_952,
+        ),
+        (
+            [2048, 16_132, 8, 28, 4, 32],
+            [1, 5, 5, 6, 20, 21, 16_111, 120_315_160],
+            246_405_447_680,
+        ),
+        (
+            [4096, 32_516, 8, 28, 4, 32],
+            [1, 5, 5, 6, 20, 21, 32_495, 1_017_626_392],
+            4_168_197_701_632,
+        ),
+        (
+            [4096, 4_194_304, 65_536, 28, 4, 32],
+            [
+                129,
+                261,
+                261,
+                262,
+                131_332,
+                131_333,
+                4_062_971,
+                1_017_626_392,
+            ],
+            4_168_197_701_632,
+        ),
     ];
     for (asked, places, size) in told {
         let geometry = Geometry::checked(request(asked));
         assert!(rt; geometry.is_ok(), "{asked:?}");
         let Ok(geometry) = geometry else { return };
         assert_eq!(rt; geometry.request(), request(asked));
-        assert!(rt; geometry.is_inline(), "{asked:?}");
+        assert_eq!(rt; geometry.is_inline(), places[0] == 0, "{asked:?}");
         assert_eq!(rt; places_of(&geometry), places, "{asked:?}");
         assert_eq!(rt; geometry.max_size(), size, "{asked:?}");
     }
@@ -106,7 +158,7 @@ fn tells_the_way_to_a_block(rt: HostRuntime) {
 
 #[test]
 fn tells_the_first_limit_that_is_broken(rt: HostRuntime) {
-    let told: [([u32; 6], BadGeometry); 23] = [
+    let told: [([u32; 6], BadGeometry); 21] = [
         ([1000, 64, 8, 28, 4, 32], BadGeometry::BlockSize),
         ([8192, 64, 8, 28, 4, 32], BadGeometry::BlockSize),
         ([512, 4_194_305, 8, 28, 4, 32], BadGeometry::Blocks),
@@ -121,8 +173,6 @@ fn tells_the_first_limit_that_is_broken(rt: HostRuntime) {
         ([512, 64, 8, 28, 2, 4_294_967_295], BadGeometry::Pointers),
         ([512, 21, 8, 28, 4, 32], BadGeometry::Room),
         ([512, 0, 8, 28, 4, 32], BadGeometry::Room),
-        ([512, 3844, 8, 28, 4, 32], BadGeometry::External),
-        ([512, 100_000, 49_971, 28, 4, 32], BadGeometry::External),
         // two limits are broken
         ([0, 4_294_967_295, 8, 28, 4, 32], BadGeometry::BlockSize),
         ([512, 4_194_305, 0, 28, 4, 32], BadGeometry::Blocks),
