@@ -1,6 +1,6 @@
 -- What `format` promises, from what the formatter promises.
 use Rattle.std.proofs.Common.{◌≡◌, inl, inr, ℕ, true, false, sym, subst, arith}
-use Rattle.std.specs.Prelude.{IsTrue, Result, Ok, Err, OnOk, OnErr, is_err}
+use Rattle.std.specs.Prelude.{IsTrue, Result, Ok, Err, OnOk, OnErr, is_err, is_ok}
 use Rattle.std.proofs.lemmas.Bool.{false≢true}
 use Rattle.edge_base.specs.declared.geometry.Request.{Request}
 use Rattle.edge_io.specs.Moments.{GivesMoment}
@@ -44,3 +44,8 @@ module _ (g : Request) (before after : World) (time : ℕ) (moment : IsTrue befo
     sure = λ settled _. sure settled;
     cut = λ settled five. absurd (not_written report.status five written);
   }
+
+-- what holds after Ok, of an answer that is Ok
+pub passed_ok : {T E : Type 0} (r : Result T E) (P : Type 0) → is_ok r ≡ true → OnOk r P → P
+passed_ok (Ok x) P is p = p
+passed_ok (Err e) P is p = absurd (false≢true is)

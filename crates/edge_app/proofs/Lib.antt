@@ -2,6 +2,8 @@ pub mod StreamLaws
 pub mod SessionLaws
 pub mod ProgressLaws
 pub mod CountLaws
+pub mod FoundLaws
+pub mod BitmapLaws
 pub mod MountLaws
 pub mod TopLaws
 pub mod RunLaws

@@ -1,19 +1,20 @@
 -- The first reason why an image is not mounted, step by step.
-use Rattle.std.proofs.Common.{◌≡◌, ◌≢◌, ℕ, ◌+◌, ◌-◌, ◌/◌, ◌^◌, ◌<◌, ◌≤◌, ◌==◌, true, false, not, cond, List, Option, Some, None, Ok, Err, refl, sym, ap, ◌∙◌, subst, ◌⊎◌, inl, inr}
-use Rattle.std.specs.Prelude.{nat_lt, Result}
-use Rattle.std.specs.List.{list_any, range_with_len}
+use Rattle.std.proofs.Common.{◌≡◌, ◌≢◌, ℕ, ◌+◌, ◌-◌, ◌/◌, ◌^◌, ◌<◌, ◌≤◌, ◌==◌, Bool, true, false, not, cond, List, drop, Option, Some, None, Ok, Err, refl, sym, ap, ◌∙◌, subst, ◌⊎◌, inl, inr}
+use Rattle.std.specs.Prelude.{nat_lt, Result, IfOk, MatchResult}
 use Rattle.std.proofs.lemmas.Bool.{lt-ltb, le-ltb, eq-eqb, eqb-true}
 use Rattle.edge_base.specs.declared.geometry.Request.{Request}
 use Rattle.edge_base.specs.declared.node.Master.{Master}
 use Rattle.edge_base.specs.declared.node.Metaroot.{Metaroot}
 use Rattle.edge_base.specs.declared.node.NodeFault.{NodeFault}
-use Rattle.edge_base.specs.layout.Places.{is_inline_of}
-use Rattle.edge_base.specs.layout.Sizes.{node_bits}
+use Rattle.edge_base.specs.layout.Bitmap.{used_under}
 use Rattle.edge_base.specs.layout.Spelling.{master_in, metaroot_in}
 use Rattle.edge_disk.specs.Image.{Image}
-use Rattle.edge_image.specs.Image.{Live, live_of, live_among, reason_of, reason_of_master, reason_of_live, reason_of_counts, has_bad_imap, spells_imap, imap_block_of}
+use Rattle.edge_image.specs.Image.{Live, live_of, live_among, used_in, place_of, root_number, reason_of, reason_of_master, reason_of_live, reason_of_counts, has_bad_imap}
 use Rattle.edge_app.specs.Live.{live_bytes, FindsLive}
-use Rattle.edge_app.specs.Mount.{Judges, Mounts, reason_inline}
+use Rattle.edge_app.specs.Mount.{IsVolume, AnswersReason, Judges, MountTold, reason_under}
+use Rattle.edge_app.specs.declared.mount.Mounted.{Mounted}
+use Rattle.edge_app.specs.declared.mount.MountFault.{MountFault}
+use Rattle.edge_app.specs.declared.mount.MountFault.TheVariants.{Device, NotVolume}
 
 not_equal : (a b : ℕ) → a ≢ b → (a == b) ≡ false
 not_equal a b apart = elim (a == b) as (λ t. (a == b) ≡ t → t ≡ false) [
@@ -63,43 +64,65 @@ at_place : (image : Image) (live : Live) → (live.place ≡ 1) ⊎ (live.place 
 at_place image live (inl one) = ap (λ (n : ℕ). cond (n == 1) (image.block 1) (image.block 2)) one ∙ sym (ap image.block one)
 at_place image live (inr two) = ap (λ (n : ℕ). cond (n == 1) (image.block 1) (image.block 2)) two ∙ sym (ap image.block two)
 
+-- ---- what the blocks 1 and 2 and the bitmap make of the image
+
+module _ (g : Request) (root : Metaroot) (roots : List ℕ) (content : ℕ → List ℕ) where
+  abbrev rest : Bool → Option ℕ
+  rest bad = cond bad (Some 6) (reason_of_counts g root (used_under g roots content))
+
+  pub late : 2 ^ 63 < root.sequence → reason_under g root roots content ≡ Some 5
+  late after = ap (λ b. cond b (Some 5) (rest (has_bad_imap g roots content))) (lt-ltb _ _ after)
+
+  in_time : root.sequence ≤ 2 ^ 63 → reason_under g root roots content ≡ rest (has_bad_imap g roots content)
+  in_time before = ap (λ b. cond b (Some 5) (rest (has_bad_imap g roots content))) (le-ltb _ _ before)
+
+  pub bad : root.sequence ≤ 2 ^ 63 → has_bad_imap g roots content ≡ true → reason_under g root roots content ≡ Some 6
+  bad before is = in_time before ∙ ap rest is
+
+  pub by_counts : root.sequence ≤ 2 ^ 63 → has_bad_imap g roots content ≡ false → reason_under g root roots content ≡ reason_of_counts g root (used_under g roots content)
+  by_counts before is = in_time before ∙ ap rest is
+
 -- what the live metaroot's reason, or none, makes of the image
-pub judge : (g : Request) (found : Option Live) (one two new : List ℕ) (root : Metaroot) (reason : Option ℕ) → FindsLive found one two (Some root) new → reason ≡ reason_inline g root new
-    → Judges g found one two reason new
-judge g None one two new root reason finds is = absurd (cc)
-judge g (Some live) one two new root reason finds is =
+pub judge : (g : Request) (found : Option Live) (one two new : List ℕ) (root : Metaroot) (content : ℕ → List ℕ) (told : Result Mounted MountFault) → FindsLive found one two (Some root) new
+    → AnswersReason g (reason_under g root (drop 32 new) content) (place_of g (used_under g (drop 32 new) content) root_number) told → Judges g found one two content told
+judge g None one two new root content told finds is = absurd (let wrong : Some root ≡ None = finds in cc)
+judge g (Some live) one two new root content told finds is =
     let same : root ≡ live.root = let e = finds.0 in cc in
-    (finds.1, is ∙ ap (λ r. reason_inline g r new) same ∙ ap (reason_inline g live.root) finds.1)
+    subst (λ (r : Metaroot). AnswersReason g (reason_under g r (drop 32 (live_bytes live one two)) content) (place_of g (used_under g (drop 32 (live_bytes live one two)) content) root_number) told) same
+    (subst (λ b. AnswersReason g (reason_under g root (drop 32 b) content) (place_of g (used_under g (drop 32 b) content) root_number) told) finds.1 is)
 
-mounts_by : (image : Image) (master : Master) (live : Live) (bytes : List ℕ) (reason : Option ℕ) → reason_of image ≡ reason → master_in (image.block 0) ≡ Ok master
-    → live_of master.geometry image ≡ Some live → bytes ≡ image.block live.place → Mounts image master.geometry bytes reason
-mounts_by image master live bytes None is is_master is_live root = record { mounts = is; master = master; is_master = is_master; geometry = refl; live = live; is_live = is_live; metaroot = root }
-mounts_by image master live bytes (Some reason) is is_master is_live root = is
+-- what is answered, and what the image is then
+abbrev pub Mounts : Image → Result Mounted MountFault → Type 0
+Mounts image told = MatchResult told (λ m. IsVolume image m.geometry m.root) (λ e. MountTold e (reason_of image))
 
--- no imap node is bad where the bitmap is inline
-no_bad_imap : (g : Request) (image : Image) (root : List ℕ) → is_inline_of g ≡ true → has_bad_imap g image root ≡ false
-no_bad_imap g image root inline =
-    ap (λ b. list_any (λ i. not (spells_imap g i (image.block (imap_block_of g root i)))) (range_with_len 0 (cond b 0 ((g.blocks - 3 + node_bits g.block_size + 1) / (node_bits g.block_size + 2))))) inline
+mounts_by : (image : Image) (master : Master) (live : Live) (told : Result Mounted MountFault) → master_in (image.block 0) ≡ Ok master
+    → live_of master.geometry image ≡ Some live → AnswersReason master.geometry (reason_of image) (place_of master.geometry (used_in master.geometry image live) root_number) told → Mounts image told
+mounts_by image master live (Ok told) is_master is_live so =
+    subst (λ (m : Mounted). IsVolume image m.geometry m.root) (sym so.1) (record { mounts = so.0; master = master; is_master = is_master; geometry = refl; live = live; is_live = is_live; place = refl })
+mounts_by image master live (Err (NotVolume reason)) is_master is_live so = so
+mounts_by image master live (Err Device) is_master is_live so = tt
 
-inline_reason : (g : Request) (image : Image) (live : Live) → is_inline_of g ≡ true → reason_of_live g image (Some live) ≡ reason_inline g live.root (image.block live.place)
-inline_reason g image live inline = ap (λ b. cond (nat_lt (2 ^ 63) live.root.sequence) (Some 5) (cond b (Some 6) (reason_of_counts g live.root (image.block live.place)))) (no_bad_imap g image (image.block live.place) inline)
-
-judged_as : (image : Image) (master : Master) (found : Option Live) (told : Option ℕ) (bytes : List ℕ) → is_inline_of master.geometry ≡ true → master_in (image.block 0) ≡ Ok master
-    → live_of master.geometry image ≡ found → reason_of image ≡ reason_of_live master.geometry image found → Judges master.geometry found (image.block 1) (image.block 2) told bytes → Mounts image master.geometry bytes told
-judged_as image master None told bytes inline is_master is_live is j = subst (Mounts image master.geometry bytes) (sym j) is
-judged_as image master (Some live) told bytes inline is_master is_live is j =
+judged_as : (image : Image) (master : Master) (found : Option Live) (told : Result Mounted MountFault) → master_in (image.block 0) ≡ Ok master
+    → live_of master.geometry image ≡ found → reason_of image ≡ reason_of_live master.geometry image found → Judges master.geometry found (image.block 1) (image.block 2) image.block told → Mounts image told
+judged_as image master None (Ok told) is_master is_live is j = absurd j
+judged_as image master None (Err (NotVolume reason)) is_master is_live is j = is ∙ ap Some (sym j)
+judged_as image master None (Err Device) is_master is_live is j = tt
+judged_as image master (Some live) told is_master is_live is j =
+    let g = master.geometry in
     let at = at_place image live (two_places _ _ live is_live) in
-    subst (Mounts image master.geometry bytes) (sym (j.1 ∙ ap (reason_inline master.geometry live.root) at))
-    (mounts_by image master live bytes _ (is ∙ inline_reason master.geometry image live inline) is_master is_live (j.0 ∙ at))
+    mounts_by image master live told is_master is_live
+    (subst (λ r. AnswersReason g r (place_of g (used_in g image live) root_number) told) (sym is)
+    (subst (λ b. AnswersReason g (reason_under g live.root (drop 32 b) image.block) (place_of g (used_under g (drop 32 b) image.block) root_number) told) at j))
 
-pub judged : (image : Image) (master : Master) (told : Option ℕ) (bytes : List ℕ) → is_inline_of master.geometry ≡ true → 3 ≤ image.blocks → master_in (image.block 0) ≡ Ok master
+pub judged : (image : Image) (master : Master) (told : Result Mounted MountFault) → 3 ≤ image.blocks → master_in (image.block 0) ≡ Ok master
     → master.geometry.block_size ≡ image.block_size → master.geometry.blocks ≤ image.blocks
-    → Judges master.geometry (live_of master.geometry image) (image.block 1) (image.block 2) told bytes → Mounts image master.geometry bytes told
-judged image master told bytes inline enough is_master same fits j = judged_as image master (live_of master.geometry image) told bytes inline is_master refl (by_live image master enough is_master same fits) j
+    → Judges master.geometry (live_of master.geometry image) (image.block 1) (image.block 2) image.block told → Mounts image told
+judged image master told enough is_master same fits j = judged_as image master (live_of master.geometry image) told is_master refl (by_live image master enough is_master same fits) j
 
 -- what was read is what the image holds
-pub judged-same : (g : Request) (a b one two new : List ℕ) (told : Option ℕ) → a ≡ one → b ≡ two → Judges g (live_among (metaroot_in g a) (metaroot_in g b)) a b told new
-    → Judges g (live_among (metaroot_in g one) (metaroot_in g two)) one two told new
-judged-same g a b one two new told first second j =
-    subst (λ y. Judges g (live_among (metaroot_in g one) (metaroot_in g y)) one y told new) second
-    (subst (λ x. Judges g (live_among (metaroot_in g x) (metaroot_in g b)) x b told new) first j)
+pub judged-same : (g : Request) (a b one two : List ℕ) (content other : ℕ → List ℕ) (told : Result Mounted MountFault) → a ≡ one → b ≡ two → content ≡ other
+    → Judges g (live_among (metaroot_in g a) (metaroot_in g b)) a b content told → Judges g (live_among (metaroot_in g one) (metaroot_in g two)) one two other told
+judged-same g a b one two content other told first second same j =
+    subst (λ c. Judges g (live_among (metaroot_in g one) (metaroot_in g two)) one two c told) same
+    (subst (λ y. Judges g (live_among (metaroot_in g one) (metaroot_in g y)) one y content told) second
+    (subst (λ x. Judges g (live_among (metaroot_in g x) (metaroot_in g b)) x b content told) first j))

@@ -1,5 +1,5 @@
 -- What `run` promises, from what mounting and the session promise.
-use Rattle.std.proofs.Common.{◌≡◌, ◌⊎◌, inl, inr, ℕ, List, ◌<◌, ◌≤◌, ◌++◌, [], take, Some, None, Err, refl, sym, ap, ◌∙◌, subst, arith, append-nil}
+use Rattle.std.proofs.Common.{◌≡◌, ◌⊎◌, inl, inr, ℕ, List, ◌<◌, ◌≤◌, ◌++◌, [], take, Some, None, Err, Result, refl, sym, ap, ◌∙◌, subst, arith, append-nil}
 use Rattle.std.specs.Prelude.{IsTrue}
 use Rattle.std.proofs.lemmas.Bool.{false≢true}
 use Rattle.edge_base.specs.outside.Faults.{Rose}
@@ -8,7 +8,7 @@ use Rattle.edge_base.specs.declared.damage.Damage.{Damage}
 use Rattle.edge_base.specs.declared.geometry.Request.{Request}
 use Rattle.edge_base.specs.declared.node.Head.{Head}
 use Rattle.edge_disk.specs.Disk.{Origin, DiskState}
-use Rattle.edge_image.specs.Image.{reason_of, head_of, root_number}
+use Rattle.edge_image.specs.Image.{reason_of, head_by}
 use Rattle.edge_image.specs.Opens.{head_of_node, OpensTo}
 use Rattle.edge_image.specs.Ready.{IsReady}
 use Rattle.edge_image.proofs.ReadyLaws.{opens_ready}
@@ -242,15 +242,15 @@ device_counts (Fault (Damaged damage)) r a b ends count = stands a b (λ e. let 
 
 -- ---- all of a session
 
-module _ (before : World) (mounted then : DiskState) (source : SourceState) (sink : SinkState) (how : How) (report : Report) (g : Request) (root : List ℕ)
+module _ (before : World) (mounted then : DiskState) (source : SourceState) (sink : SinkState) (how : How) (report : Report) (g : Request) (root : Result ℕ Damage)
     (to_mounted : IsUntouched before.disk mounted) (to_end : IsUntouched mounted then) (volume : IsTrue before.disk.origin.shows → IsVolume (shown_by before.disk) g root)
     (ends : EndsBy how report) (no_points : report.points ≡ 0)
     (short : report.taken ≤ MOST_BYTES) (room : IsBelow how report.commands MOST_LINES) (reached : how ≡ Limit → (report.commands ≡ MOST_LINES) ⊎ (report.taken ≡ MOST_BYTES))
     (holds : IsTrue mounted.origin.shows → IsTrue before.source.tells → IsTrue before.sink.tells → how ≡ Limit → HoldsLines before.source.left report.commands report.taken ⊎ (report.taken ≡ MOST_BYTES))
     (read : IsTrue before.source.tells → how ≡ End → source.left ≡ [])
-    (damage_is : IsTrue mounted.origin.shows → (damage : Damage) → how ≡ Fault (Damaged damage) → head_of g (shown_by mounted) root root_number ≡ Err damage)
+    (damage_is : IsTrue mounted.origin.shows → (damage : Damage) → how ≡ Fault (Damaged damage) → head_by (shown_by mounted) root ≡ Err damage)
     (ran : IsTrue mounted.origin.shows → IsTrue before.source.tells → IsTrue before.sink.tells
-    → Ran how (head_of g (shown_by mounted) root root_number) before.source.left source.left report.commands report.taken before.sink.taken sink.taken)
+    → Ran how (head_by (shown_by mounted) root) before.source.left source.left report.commands report.taken before.sink.taken sink.taken)
     (from_source : SourceCount (Some how) before.source.faults source.faults) (from_sink : SinkCount (Some how) before.sink.faults sink.faults)
     (from_device : RootCount (Some how) before.disk.faults then.faults) where
   shows_then : IsTrue before.disk.origin.shows → IsTrue mounted.origin.shows
@@ -259,8 +259,8 @@ module _ (before : World) (mounted then : DiskState) (source : SourceState) (sin
   same : shown_by mounted ≡ shown_by before.disk
   same = same_image before.disk mounted to_mounted
 
-  head_then : (shows : IsTrue before.disk.origin.shows) → head_of g (shown_by mounted) root root_number ≡ head_of g (shown_by before.disk) root root_number
-  head_then shows = ap (λ i. head_of g i root root_number) same
+  head_then : (shows : IsTrue before.disk.origin.shows) → head_by (shown_by mounted) root ≡ head_by (shown_by before.disk) root
+  head_then shows = ap (λ i. head_by i root) same
 
   judged : IsTrue before.disk.origin.shows → JudgesImage (shown_by before.disk) report
   judged shows = record {
@@ -268,7 +268,7 @@ module _ (before : World) (mounted then : DiskState) (source : SourceState) (sin
     served = λ session. (volume shows).mounts;
     damaged = λ e.
         let m = met how report ends e in
-        record { g = g; metaroot = root; volume = volume shows; damage = m.0; told_is = m.2; meets = sym (head_then shows) ∙ damage_is (shows_then shows) m.0 m.1 };
+        record { g = g; root = root; volume = volume shows; damage = m.0; told_is = m.2; meets = sym (head_then shows) ∙ damage_is (shows_then shows) m.0 m.1 };
     ready = λ head ready. (
       λ e.
           let m = met how report ends e in
@@ -281,7 +281,7 @@ module _ (before : World) (mounted then : DiskState) (source : SourceState) (sin
   abbrev after : World
   after = record before { source = source; sink = sink; disk = then }
 
-  told_ran : TellsBytes before → Ran how (head_of g (shown_by mounted) root root_number) before.source.left source.left report.commands report.taken before.sink.taken sink.taken
+  told_ran : TellsBytes before → Ran how (head_by (shown_by mounted) root) before.source.left source.left report.commands report.taken before.sink.taken sink.taken
   told_ran told = ran (shows_then told.disk) told.source told.sink
 
   by_head_served : TellsBytes before → (head : Head) → IsReady (shown_by before.disk) head → AnswersByHead head before after report
@@ -326,7 +326,7 @@ module _ (before : World) (mounted then : DiskState) (source : SourceState) (sin
         end = λ done tells. read tells (ended_by how report ends done);
         image = judged;
         script = λ told. record {
-          session = inl (record { g = g; metaroot = root; volume = volume told.disk; how = how; ended = ends; ran = subst (λ h. Ran how h before.source.left source.left report.commands report.taken before.sink.taken sink.taken) (head_then told.disk) (told_ran told) });
+          session = inl (record { g = g; root = root; volume = volume told.disk; how = how; ended = ends; ran = subst (λ h. Ran how h before.source.left source.left report.commands report.taken before.sink.taken sink.taken) (head_then told.disk) (told_ran told) });
           limit = λ e. holds (shows_then told.disk) told.source told.sink (limited how report ends e);
           ready = by_head_served told;
           tree = by_tree_served told;

@@ -1,15 +1,16 @@
 -- What a sink has taken of the text of a run over a tree.
-use Rattle.std.proofs.Common.{◌≡◌, ℕ, ◌+◌, ◌<◌, List, [], ◌∷◌, ◌++◌, length, take, Some, Ok, refl, sym, ap, ◌∙◌, subst, arith, append-nil, append_assoc}
+use Rattle.std.proofs.Common.{◌≡◌, ℕ, ◌+◌, ◌<◌, List, [], ◌∷◌, ◌++◌, length, take, Some, Ok, Result, refl, sym, ap, ◌∙◌, subst, arith, append-nil, append_assoc}
 use Rattle.std.specs.List.{flat_map}
 use Rattle.std.proofs.lemmas.List.{length-append, take_more}
 use Rattle.std.proofs.lemmas.List.Concat.{flat_map-append}
 use Rattle.std.proofs.Math.Seq.{take-append-add}
+use Rattle.edge_base.specs.declared.damage.Damage.{Damage}
 use Rattle.edge_base.specs.declared.geometry.Request.{Request}
 use Rattle.edge_base.specs.tree.Nodes.{Node, directory}
 use Rattle.edge_disk.specs.Image.{Image}
 use Rattle.edge_model.specs.Tree.{Tree}
 use Rattle.edge_model.specs.Run.{run_of}
-use Rattle.edge_image.specs.Image.{head_of, root_number}
+use Rattle.edge_image.specs.Image.{head_by}
 use Rattle.edge_image.specs.Opens.{head_of_node, OpensTo}
 use Rattle.edge_image.proofs.ReadyLaws.{opens_ready}
 use Rattle.edge_app.specs.declared.report.Report.{Report}
@@ -89,9 +90,9 @@ module _ (g : Request) (t : Tree) (node : Node) (is : t 2 ≡ Some node) where
       part_of Sink r ends ran four = part_answered script k before after ran.answered.inside ran.replies
 
 -- a session over an image that opens to a tree
-pub session_text : (image image_then : Image) → image_then ≡ image → (g : Request) (root : List ℕ) (t : Tree) → (opens : OpensTo image t) → IsVolume image g root
+pub session_text : (image image_then : Image) → image_then ≡ image → (g : Request) (root : Result ℕ Damage) (t : Tree) → (opens : OpensTo image t) → IsVolume image g root
     → (how : How) (script left : List ℕ) (k taken : ℕ) (before after : List ℕ) (r : Report) → EndsBy how r → r.commands ≡ k
-    → Ran how (head_of g image_then root root_number) script left k taken before after → TookText opens.master.geometry t script r before after
+    → Ran how (head_by image_then root) script left k taken before after → TookText opens.master.geometry t script r before after
 session_text image image_then same g root t opens volume how script left k taken before after r ends commands ran =
     let node = opens.tree.root in
     let head = head_of_node opens.master.geometry t 2 (directory node.0 0) in

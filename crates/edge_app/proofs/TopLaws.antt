@@ -2,12 +2,14 @@
 use Rattle.std.proofs.Common.{◌≡◌, ℕ, zero, suc, ◌+◌, ◌<◌, ◌==◌, ◌++◌, ◌⊎◌, inl, inr, Bool, true, false, List, [], ◌∷◌, cond, length, take, drop, Some, Ok, refl, sym, ap, ◌∙◌, subst, arith, append_assoc}
 use Rattle.std.proofs.lemmas.List.{length-take, take_at, take_all, take-append-le, drop_more}
 use Rattle.std.proofs.Math.Seq.{take-append-add}
+use Rattle.std.specs.Prelude.{Result}
+use Rattle.edge_base.specs.declared.damage.Damage.{Damage}
 use Rattle.edge_base.specs.declared.geometry.Request.{Request}
 use Rattle.edge_base.specs.declared.node.Head.{Head}
 use Rattle.edge_base.specs.declared.node.Master.{Master}
 use Rattle.edge_base.specs.layout.Places.{inode_place_of}
 use Rattle.edge_disk.specs.Image.{Image, shown_image}
-use Rattle.edge_image.specs.Image.{Live, live_of, is_used, used_place, place_of, head_of, head_told, head_by, root_number}
+use Rattle.edge_image.specs.Image.{Live, live_of, used_in, used_place, place_of, head_told, head_by, root_number}
 use Rattle.edge_image.specs.Ready.{IsReady}
 use Rattle.edge_app.specs.Mount.{IsVolume}
 use Rattle.edge_disk.specs.State.{IsUntouched, shown_by}
@@ -28,28 +30,28 @@ either : (b : Bool) → (b ≡ true) ⊎ (b ≡ false)
 either true = inl refl
 either false = inr refl
 
-used_is_place : (g : Request) (root : List ℕ) (number place : ℕ) → used_place g root number ≡ Some place → place_of g root number ≡ Ok place
-used_is_place g root number place e =
-    let first = is_used g root (inode_place_of g number false) in
-    let second = is_used g root (inode_place_of g number true) in
+used_is_place : (g : Request) (used : ℕ → Bool) (number place : ℕ) → used_place g used number ≡ Some place → place_of g used number ≡ Ok place
+used_is_place g used number place e =
+    let first = used (inode_place_of g number false) in
+    let second = used (inode_place_of g number true) in
     elim (either first) [
       | inl f ↦ elim (either second) [ inl s ↦ cc | inr s ↦ cc ]
       | inr f ↦ elim (either second) [ inl s ↦ cc | inr s ↦ cc ]
     ]
 
-pub ready_root : (image : Image) (g : Request) (root : List ℕ) (head : Head) → IsReady image head → IsVolume image g root → head_of g image root root_number ≡ Ok head
+pub ready_root : (image : Image) (g : Request) (root : Result ℕ Damage) (head : Head) → IsReady image head → IsVolume image g root → head_by image root ≡ Ok head
 ready_root image g root head ready volume =
     let master : ready.master ≡ volume.master = let e = sym ready.is_master ∙ volume.is_master in cc in
     let geometry : ready.master.geometry ≡ g = ap (λ (m : Master). m.geometry) master ∙ sym volume.geometry in
     let live : ready.live ≡ volume.live = let e = sym ready.is_live ∙ ap (λ (r : Request). live_of r image) geometry ∙ volume.is_live in cc in
-    let bytes : image.block ready.live.place ≡ root = ap (λ (l : Live). image.block l.place) live ∙ sym volume.metaroot in
-    let place : place_of ready.master.geometry (image.block ready.live.place) root_number ≡ Ok ready.place =
-    used_is_place ready.master.geometry (image.block ready.live.place) root_number ready.place ready.one_place in
-    sym (ap (λ (r : Request). head_of r image (image.block ready.live.place) root_number) geometry ∙ ap (λ b. head_of g image b root_number) bytes)
-    ∙ ap (head_by image) place ∙ ap (head_told ready.place) ready.spells
+    let place : place_of ready.master.geometry (used_in ready.master.geometry image ready.live) root_number ≡ Ok ready.place =
+    used_is_place ready.master.geometry (used_in ready.master.geometry image ready.live) root_number ready.place ready.one_place in
+    let same : place_of ready.master.geometry (used_in ready.master.geometry image ready.live) root_number ≡ place_of g (used_in g image volume.live) root_number
+    = λ i. place_of (geometry i) (used_in (geometry i) image (live i)) root_number in
+    ap (head_by image) (volume.place ∙ sym same ∙ place) ∙ ap (head_told ready.place) ready.spells
 
-pub root_then : (image image_then : Image) → image_then ≡ image → (g : Request) (root : List ℕ) (head : Head) → IsReady image head → IsVolume image g root → head_of g image_then root root_number ≡ Ok head
-root_then image image_then same g root head ready volume = ap (λ i. head_of g i root root_number) same ∙ ready_root image g root head ready volume
+pub root_then : (image image_then : Image) → image_then ≡ image → (g : Request) (root : Result ℕ Damage) (head : Head) → IsReady image head → IsVolume image g root → head_by image_then root ≡ Ok head
+root_then image image_then same g root head ready volume = ap (λ i. head_by i root) same ∙ ready_root image g root head ready volume
 
 -- ---- fronts of all the replies
 
@@ -92,8 +94,8 @@ front_of (Fault Device) head script left k taken before after ran = first_lines 
 front_of (Fault (Damaged damage)) head script left k taken before after ran = first_lines head script k before after ran.replies
 front_of Sink head script left k taken before after ran = first_lines_and_part head script k before after ran.answered.inside ran.replies
 
-pub is_front : (image image_then : Image) → image_then ≡ image → (g : Request) (root : List ℕ) (head : Head) → IsReady image head → IsVolume image g root → (how : How) (script left : List ℕ) (k taken : ℕ) (before after : List ℕ)
-    → Ran how (head_of g image_then root root_number) script left k taken before after → IsFront head script before after
+pub is_front : (image image_then : Image) → image_then ≡ image → (g : Request) (root : Result ℕ Damage) (head : Head) → IsReady image head → IsVolume image g root → (how : How) (script left : List ℕ) (k taken : ℕ) (before after : List ℕ)
+    → Ran how (head_by image_then root) script left k taken before after → IsFront head script before after
 is_front image image_then same g root head ready volume how script left k taken before after ran =
     front_of how head script left k taken before after (subst (λ r. Ran how r script left k taken before after) (root_then image image_then same g root head ready volume) ran)
 
@@ -103,11 +105,11 @@ whole_of head script left k taken before after ran =
     let all = ran.answered.0 in
     ran.replies ∙ ap (λ ls. before ++ replies_to head ls) (take_all k (lines_of script) (omega arith))
 
-pub is_whole : (image image_then : Image) → image_then ≡ image → (g : Request) (root : List ℕ) (head : Head) → IsReady image head → IsVolume image g root → (how : How) (script left : List ℕ) (k taken : ℕ) (before after : List ℕ) → how ≡ End
-    → Ran how (head_of g image_then root root_number) script left k taken before after → after ≡ before ++ replies_to head (lines_of script)
+pub is_whole : (image image_then : Image) → image_then ≡ image → (g : Request) (root : Result ℕ Damage) (head : Head) → IsReady image head → IsVolume image g root → (how : How) (script left : List ℕ) (k taken : ℕ) (before after : List ℕ) → how ≡ End
+    → Ran how (head_by image_then root) script left k taken before after → after ≡ before ++ replies_to head (lines_of script)
 is_whole image image_then same g root head ready volume how script left k taken before after ended ran =
     whole_of head script left k taken before after
-    (subst (λ r. Ran End r script left k taken before after) (root_then image image_then same g root head ready volume) (subst (λ h. Ran h (head_of g image_then root root_number) script left k taken before after) ended ran))
+    (subst (λ r. Ran End r script left k taken before after) (root_then image image_then same g root head ready volume) (subst (λ h. Ran h (head_by image_then root) script left k taken before after) ended ran))
 
 -- ---- what stands in the report
 
@@ -172,10 +174,10 @@ all_of (Fault Device) head script left k taken before after r ends within source
 all_of (Fault (Damaged damage)) head script left k taken before after r ends within source sink device limit ran = absurd (let e = ran.answered.2 in cc)
 all_of Limit head script left k taken before after r ends within source sink device limit ran = absurd (not_limited head script left k taken before after within (limit refl) ran)
 
-pub is_complete : (image image_then : Image) → image_then ≡ image → (g : Request) (root : List ℕ) (head : Head) → IsReady image head → IsVolume image g root → (how : How) (script left : List ℕ) (k taken : ℕ) (before after : List ℕ)
+pub is_complete : (image image_then : Image) → image_then ≡ image → (g : Request) (root : Result ℕ Damage) (head : Head) → IsReady image head → IsVolume image g root → (how : How) (script left : List ℕ) (k taken : ℕ) (before after : List ℕ)
     (r : Report) → EndsBy how r → FitsSession script
     → (how ≡ Source → ⊥) → (how ≡ Sink → ⊥) → (how ≡ (Fault Device) → ⊥) → (how ≡ Limit → (k ≡ 4294967295) ⊎ (taken ≡ 1099511627776))
-    → Ran how (head_of g image_then root root_number) script left k taken before after → (r.status ≡ 0) ⊎ (r.status ≡ 7)
+    → Ran how (head_by image_then root) script left k taken before after → (r.status ≡ 0) ⊎ (r.status ≡ 7)
 is_complete image image_then same g root head ready volume how script left k taken before after r ends within source sink device limit ran =
     all_of how head script left k taken before after r ends within source sink device limit
     (subst (λ t. Ran how t script left k taken before after) (root_then image image_then same g root head ready volume) ran)

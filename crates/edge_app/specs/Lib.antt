@@ -1,3 +1,4 @@
+pub mod Bitmap
 pub mod World
 pub mod Orders
 pub mod Causes

@@ -1,7 +1,9 @@
 //! The program without its outside: the words, the script, the image, and the call `edge`.
 #![tactic(auto)]
 
+mod bitmap;
 mod format_command;
+mod found;
 mod lines;
 mod mount;
 mod program;

@@ -1,29 +1,30 @@
 ghost use Rattle.std.specs.Prelude.{◌≡◌, ◌+◌, ◌<◌, ◌≤◌, ℕ, length, vec_len, IsTrue, MatchResult, IfOk, Bool, Result};
+ghost use Rattle.std.specs.Result.{ForOk};
 ghost use Rattle.edge_base.specs.declared.damage.Damage.{Damage};
 ghost use Rattle.edge_base.specs.declared.node.Head.{Head};
 ghost use Rattle.edge_base.specs.layout.Spelling.{inode_in};
 ghost use Rattle.edge_base.specs.outside.Faults.{Rose};
 ghost use Rattle.edge_disk.specs.State.{disk_of, shown_by, IsUntouched};
 ghost use Rattle.edge_disk.proofs.StateLaws.{untouched, untouched-twice};
-ghost use Rattle.edge_image.specs.Image.{place_of, head_told, head_of, root_number, reason_of};
+ghost use Rattle.edge_image.specs.Image.{head_told, head_by, reason_of};
 ghost use Rattle.edge_store.specs.View.{kind_of_fault};
 ghost use Rattle.edge_app.specs.Mount.{IsVolume, MountCount, MountTold};
 ghost use Rattle.edge_app.specs.Volume.{Tells, VolumeCount};
 
-use crate::mount::{MountFault, is_used, mount};
+use crate::mount::{MountFault, mount};
 use edge_base::{Damage, DamageKind, Geometry, Head, NodeFault};
 use edge_disk::Disk;
 use edge_model::AskFault;
 use edge_nodes::decode_inode;
 
-/// What is kept of a mounted image: its geometry, the bytes of its live metaroot, and room for a
-/// block.
+/// What is kept of a mounted image: its geometry, the place of the root's inode, or what is wrong with
+/// its places, and room for a block.
 #[derive(Drop)]
 pub struct Kept {
     pub geometry: Geometry,
-    pub metaroot: Vec<u8>,
+    pub root: Result<u32, Damage>,
     pub block: Vec<u8>,
-    ghost metaroot_long: { vec_len metaroot ≡ geometry.block_size },
+    ghost inside: { ForOk root (λ place. place < geometry.blocks) },
     ghost block_long: { vec_len block ≡ geometry.block_size },
 }
 
@@ -62,14 +63,14 @@ impl<D: Disk> Volume<D> {
         ensures cause { MatchResult result (λ v. D.faults v.disk ≡ D.faults disk)
             (λ e. MountCount e.1 (D.faults disk) (D.faults e.0)) }
         ensures told { IsTrue (D.origin disk).shows → MatchResult result
-            (λ v. IsVolume (shown_by (disk_of D.Disk disk)) v.kept.geometry v.kept.metaroot.items)
+            (λ v. IsVolume (shown_by (disk_of D.Disk disk)) v.kept.geometry v.kept.root)
             (λ e. MountTold e.1 (reason_of (shown_by (disk_of D.Disk disk)))) }
     {
         match mount(&mut disk, &mut metaroot, &mut block) {
-            Ok(geometry) => {
+            Ok(mounted) => {
                 let kept = Kept {
-                    geometry,
-                    metaroot,
+                    geometry: mounted.geometry,
+                    root: mounted.root,
                     block,
                 };
                 Ok(Volume { disk, kept })
@@ -84,29 +85,6 @@ impl<D: Disk> Volume<D> {
     {
         let Volume { disk, kept: _kept } = self;
         disk
-    }
-}
-
-// The place of the root's inode, or the damage where not exactly one of its two places is used.
-fn root_place(g: &Geometry, metaroot: &[u8]) -> Result<u32, Damage>
-    requires { length metaroot.now ≡ g.now.block_size }
-    ensures place { result ≡ place_of g.now metaroot.now root_number }
-    ensures inside { IfOk result (λ place. place < g.now.blocks) }
-{
-    let _within_limits = g.request();
-    let first = g.inode_place(2, false);
-    let second = g.inode_place(2, true);
-    match (is_used(g, metaroot, first), is_used(g, metaroot, second)) {
-        (true, false) => Ok(first),
-        (false, true) => Ok(second),
-        (true, true) => Err(Damage {
-            block: first,
-            kind: DamageKind::TwoPlaces,
-        }),
-        (false, false) => Err(Damage {
-            block: first,
-            kind: DamageKind::NotUsed,
-        }),
     }
 }
 
@@ -153,8 +131,7 @@ pub trait ReadRoot {
 impl<D: Disk> ReadRoot for Volume<D> {
     ghost shows = { λ v. (D.origin v.disk).shows };
 
-    ghost root = { λ v. let image = shown_by (disk_of D.Disk v.disk) in
-        head_of v.kept.geometry image v.kept.metaroot.items root_number };
+    ghost root = { λ v. head_by (shown_by (disk_of D.Disk v.disk)) v.kept.root };
 
     ghost faults = { λ v. D.faults v.disk };
 
@@ -166,7 +143,7 @@ impl<D: Disk> ReadRoot for Volume<D> {
 
     fn root_head(&mut self) -> Result<Head, AskFault> {
         let kept = &mut self.kept;
-        let place = match root_place(&kept.geometry, &kept.metaroot) {
+        let place = match kept.root {
             Ok(place) => place,
             Err(damage) => return Err(AskFault::Damaged(damage)),
         };

@@ -3,3 +3,4 @@ pub mod SetLaws
 pub mod PositionLaws
 pub mod CountLaws
 pub mod ChainLaws
+pub mod LayoutLaws

@@ -3,3 +3,4 @@ pub mod Word
 pub mod Sizes
 pub mod Places
 pub mod Spelling
+pub mod Bitmap

@@ -31,8 +31,6 @@ pub enum BadGeometry {
     Pointers,
     /// Fewer than 3 blocks are allocable.
     Room,
-    /// The bitmap does not fit into the metaroot.
-    External,
 }
 
 /// A request within the limits. `docs/FORMAT.md`, "Regions", has the places that it tells.
@@ -55,7 +53,8 @@ impl Model for Geometry {
 }
 
 impl Geometry {
-    ghost use Rattle.edge_base.specs.layout.Places.{bad_geometry, is_inline_of, imap_nodes_of, HaveRoom, imap_place_of, table_start_of, inode_place_of, first_allocable_of, allocable_of, max_blocks_of, max_size_of, way_of, IsWithinNodes, IsGeometry, IsWithinLimits};
+    ghost use Rattle.edge_base.specs.layout.Spelling.{bits_of_node};
+    ghost use Rattle.edge_base.specs.layout.Places.{bad_geometry, is_inline_of, imap_nodes_of, HaveRoom, imap_place_of, table_start_of, inode_place_of, first_allocable_of, allocable_of, root_bits_of, max_blocks_of, max_size_of, way_of, IsWithinNodes, IsGeometry, IsWithinLimits};
 
     /// The geometry of a request, or the first limit that it breaks.
     #[tactic(auto, unfolding(crate::specs::layout::Places::bad_geometry))]
@@ -82,13 +81,9 @@ impl Geometry {
         if r.direct == 0 || r.direct > entries || r.indirect > entries - r.direct {
             return Err(BadGeometry::Pointers);
         }
-        let inline = r.blocks.saturating_sub(3) <= 8 * (r.block_size - 32);
         let first = 3 + 2 * pairs_of_imap_nodes(r.block_size, r.blocks) + 2 * r.inodes;
         if r.blocks < first + 3 {
             return Err(BadGeometry::Room);
-        }
-        if !inline {
-            return Err(BadGeometry::External);
         }
         Ok(Geometry { request: r })
     }
@@ -116,6 +111,9 @@ impl Geometry {
         ensures count { result ≡ imap_nodes_of self.now }
         ensures enough { is_inline_of self.now ≡ false → HaveRoom self.now result }
         ensures least { is_inline_of self.now ≡ false → (k : ℕ) → HaveRoom self.now k → result ≤ k }
+        ensures some { is_inline_of self.now ≡ false → 1 ≤ result }
+        ensures fits { result ≤ 8 * (self.now.block_size - 32) }
+        ensures most { result ≤ 1057 }
     {
         pairs_of_imap_nodes(self.request.block_size, self.request.blocks)
     }
@@ -128,6 +126,38 @@ impl Geometry {
     {
         let _within_limits = &self.request;
         place_in_pair(3, node, second)
+    }
+
+    /// The bits of a metaroot's bitmap: one for each block behind the metaroots, or one for each pair
+    /// of imap nodes.
+    pub fn root_bits(&self) -> u32
+        ensures count { result ≡ root_bits_of self.now }
+        ensures fits { result ≤ 8 * (self.now.block_size - 32) }
+    {
+        if self.is_inline() {
+            return self.request.blocks - 3;
+        }
+        self.imap_nodes()
+    }
+
+    /// The bits that an imap node has room for.
+    pub fn node_bits(&self) -> u32
+        ensures count { result ≡ node_bits self.now.block_size }
+        ensures most { result ≤ 32640 }
+    {
+        8 * (self.request.block_size - 16)
+    }
+
+    /// The bits that an imap node holds: those of the blocks of the image. Node i holds the bits from
+    /// number `i * node_bits()` on.
+    pub fn bits_of_node(&self, node: u32) -> u32
+        requires { node < imap_nodes_of self.now }
+        ensures { result ≡ bits_of_node self.now node }
+    {
+        prove!(node < self.imap_nodes());
+        let before = node * self.node_bits();
+        let behind = self.request.blocks - self.table_start();
+        self.node_bits().min(behind.saturating_sub(before))
     }
 
     /// The first block of the inode table.

@@ -1,9 +1,11 @@
 //! Laws over the definitions of `specs/`: functions without effects.
 
-ghost use Rattle.std.specs.Prelude.{◌≡◌, ◌↔◌, ◌≤◌, ℕ, ◌+◌, ◌==◌, ◌&&◌, not, Bool, true, false, List, ◌++◌, length, filter, count_by, Ok};
+ghost use Rattle.std.specs.Prelude.{◌≡◌, ◌↔◌, ◌<◌, ◌≤◌, ℕ, ◌+◌, ◌-◌, ◌/◌, ◌==◌, ◌&&◌, not, Bool, true, false, List, ◌++◌, length, filter, count_by, Ok};
 ghost use Rattle.std.specs.List.{list_any, range_with_len};
 ghost use Rattle.edge_base.specs.declared.geometry.Request.{Request};
 ghost use Rattle.edge_base.specs.layout.Bytes.{number_at};
+ghost use Rattle.edge_base.specs.layout.Places.{is_inline_of, imap_nodes_of, table_start_of};
+ghost use Rattle.edge_base.specs.layout.Sizes.{node_bits};
 ghost use Rattle.edge_base.specs.tree.Chains.{is_on_chain};
 ghost use Rattle.edge_base.specs.tree.Counting.{LeadTo};
 ghost use Rattle.edge_base.specs.tree.Positions.{Position, same_position, has, count_of, positions_of};
@@ -13,6 +15,12 @@ ghost use Rattle.edge_base.specs.layout.Spelling.{PointerNode, SpellsPointer, po
 pub fn reads_the_spelled_pointer_node()
     ensures { (g : Request) (double : Bool) (b : List ℕ) (node : PointerNode) → length b ≡ g.block_size
         → (pointer_in g double b ≡ Ok node) ↔ SpellsPointer g double (number_at 8 8 b) node.owner node.entries b }
+{}
+
+/// Where the bitmap is in imap nodes, each block from the inode table on has a bit in one of them.
+pub fn each_block_has_a_bit()
+    ensures { (g : Request) → 16 < g.block_size → is_inline_of g ≡ false → (b : ℕ) → table_start_of g ≤ b → b < g.blocks
+        → (b - table_start_of g) / node_bits g.block_size < imap_nodes_of g }
 {}
 
 /// The test of positions is equality.

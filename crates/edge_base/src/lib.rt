@@ -15,7 +15,7 @@ pub use damage::{Damage, DamageKind};
 pub use form::Form;
 pub use geometry::{BadGeometry, Geometry, Request};
 pub use laws::{
-    fewer_members_count_no_more, numbers_count_as_positions, position_counts,
+    each_block_has_a_bit, fewer_members_count_no_more, numbers_count_as_positions, position_counts,
     positions_are_on_chains, reads_the_spelled_pointer_node, same_members_count_the_same,
     same_position_is_equality,
 };

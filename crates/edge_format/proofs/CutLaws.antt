@@ -1,18 +1,18 @@
 -- What a cut leaves of a disk that is being formatted, from what the parts promise.
-use Rattle.std.proofs.Common.{◌≡◌, ◌≢◌, ◌⊎◌, inl, inr, ⊎_elim, ℕ, ◌<◌, ◌≤◌, ◌==◌, List, replicate, Ok, Err, Result, refl, sym, ap, ◌∙◌, subst, arith}
+use Rattle.std.proofs.Common.{◌≡◌, ◌≢◌, ◌⊎◌, inl, inr, ⊎_elim, ℕ, ◌<◌, ◌≤◌, ◌==◌, false, List, replicate, Ok, Err, Result, refl, sym, ap, ◌∙◌, subst, arith}
 use Rattle.std.specs.Prelude.{IsTrue, OnErr}
 use Rattle.std.proofs.lemmas.Bool.{cases_eq, eqb-true}
 use Rattle.edge_base.specs.declared.geometry.Request.{Request}
 use Rattle.edge_base.specs.declared.node.Master.{Master}
 use Rattle.edge_base.specs.declared.node.NodeFault.TheVariants.{WrongSignature}
-use Rattle.edge_base.specs.layout.Places.{IsWithinLimits}
+use Rattle.edge_base.specs.layout.Places.{IsWithinLimits, imap_place_of}
 use Rattle.edge_base.specs.layout.Bytes.{signature_in}
 use Rattle.edge_base.specs.layout.Spelling.{master_signature, master_in, SpellsNoNode}
 use Rattle.edge_disk.specs.Disk.{Origin, DiskState}
 use Rattle.edge_disk.specs.Image.{Image, IsPermitted}
 use Rattle.edge_disk.specs.State.{shown_by, EachCut, EachPermitted, IsTold, Keeps}
 use Rattle.edge_image.specs.Opens.{IsAlike}
-use Rattle.edge_image.specs.Formatted.{master_of, root_place, zero_block, HasFirstMetaroot, HasEmptyRoot, OpensFresh}
+use Rattle.edge_image.specs.Formatted.{master_of, root_place, zero_block, HasFirstMetaroot, HasFirstImap, HasEmptyRoot, OpensFresh}
 use Rattle.edge_image.proofs.FormattedLaws.{no_signature, opens_fresh}
 use Rattle.edge_nodes.proofs.HeaderLaws.{passed}
 use Rattle.edge_nodes.proofs.MasterLaws.{spelled_master}
@@ -48,7 +48,7 @@ still_told old new origin faults told = record {
 }
 
 pub beside_nodes : (g : Request) → IsBesideNodes g 0
-beside_nodes g = record { not_first = λ e. omega arith; not_second = λ e. omega arith; not_root = λ e. omega arith }
+beside_nodes g = record { not_imap = λ i inside e. omega arith; not_first = λ e. omega arith; not_second = λ e. omega arith; not_root = λ e. omega arith }
 
 -- a disk with this geometry has its nodes' blocks
 pub record HasRoom (g : Request) (origin : Origin) : Type 0 where
@@ -71,6 +71,7 @@ IsOnlyShown disk = (b : ℕ) (c : List ℕ) → disk.is_sure b → disk.may_hold
 -- blocks that hold the nodes still do where each of them stays
 nodes_stay : (g : Request) (blocks : ℕ) (old new : ℕ → List ℕ) → root_place g < blocks → ((b : ℕ) → b ≢ 0 → b < blocks → new b ≡ old b) → HasNodes g old → HasNodes g new
 nodes_stay g blocks old new room same has = record {
+  imap = λ i inside. subst (HasFirstImap g i) (sym (same (imap_place_of g i false) (λ e. omega arith) (omega arith))) (has.imap i inside);
   metaroot = subst (HasFirstMetaroot g) (sym (same 1 (λ e. omega arith) (omega arith))) has.metaroot;
   second = same 2 (λ e. omega arith) (omega arith) ∙ has.second;
   root = subst (HasEmptyRoot g) (sym (same (root_place g) (λ e. omega arith) room)) has.root;
@@ -83,6 +84,7 @@ formatted g time image origin blocks size room master has = opens_fresh g time i
   blocks = let fits = room.fits in omega arith;
   master = master;
   metaroot = has.metaroot;
+  imap = has.imap;
   second = has.second;
   root = has.root;
 })

@@ -1,2 +1,3 @@
 pub mod NodeLaws
+pub mod ImapLaws
 pub mod CutLaws

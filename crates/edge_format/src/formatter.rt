@@ -6,6 +6,7 @@ ghost use Rattle.edge_image.specs.Formatted.{master_of, zero_block, OpensFresh};
 ghost use Rattle.edge_format.specs.Nodes.{IsBesideNodes, IsBeside, HasNodes};
 ghost use Rattle.edge_format.specs.Cut.{IsOldOrFresh};
 
+use crate::imaps::write_imaps;
 use crate::nodes::{fill_master, fill_metaroot, fill_root};
 use crate::put::put;
 use edge_base::Geometry;
@@ -89,7 +90,8 @@ fn clear_master<D: Disk>(disk: &mut D, g: &Geometry, buffer: &mut [u8]) -> Resul
     Ok(())
 }
 
-// Writes the root's inode, the first metaroot and an empty second one, and makes them sure.
+// Writes the imap nodes, the root's inode, the first metaroot and an empty second one, and makes them
+// sure.
 fn write_nodes<D: Disk>(disk: &mut D, g: &Geometry, buffer: &mut [u8]) -> Result<(), DeviceFault>
     requires size { (D.origin disk.old).block_size ≡ g.now.block_size }
     requires fits { g.now.blocks ≤ (D.origin disk.old).blocks }
@@ -104,6 +106,7 @@ fn write_nodes<D: Disk>(disk: &mut D, g: &Geometry, buffer: &mut [u8]) -> Result
     ensures kept { Keeps (IsBesideNodes g.now) (disk_of D.Disk disk.old) (disk_of D.Disk disk.new) }
 {
     let _within_limits = g.request();
+    write_imaps(disk, g, buffer)?;
     fill_root(g, buffer);
     disk.write(g.inode_place(2, false), buffer)?;
     fill_metaroot(g, buffer);

@@ -4,6 +4,7 @@
 #![tactic(auto)]
 
 mod formatter;
+mod imaps;
 mod nodes;
 mod put;
 

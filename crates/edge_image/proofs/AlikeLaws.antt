@@ -1,22 +1,25 @@
 -- What an image opens to depends on its own blocks alone.
-use Rattle.std.proofs.Common.{◌≡◌, ℕ, zero, suc, ◌+◌, ◌-◌, ◌<◌, ◌≤◌, ◌||◌, not, Bool, true, false, cond, List, Option, Some, None, Ok, Err, refl, sym, ap, ◌∙◌, subst, arith}
-use Rattle.std.specs.Prelude.{Result, nat_lt, nat_le}
+use Rattle.std.proofs.Common.{◌≡◌, inl, inr, ℕ, zero, suc, ◌+◌, ◌-◌, ◌/◌, ◌%◌, ◌<◌, ◌≤◌, ◌||◌, ◌&&◌, not, Bool, true, false, cond, List, ◌∷◌, drop, Option, Some, None, Ok, Err, refl, sym, ap, ◌∙◌, subst, arith}
+use Rattle.std.specs.Prelude.{Result, nat_lt, nat_le, count_by}
 use Rattle.std.specs.List.{list_any, range_with_len}
-use Rattle.std.proofs.lemmas.Bool.{and_parts, leb-true, ltb-true}
+use Rattle.std.proofs.lemmas.Bool.{and_parts, leb-true, ltb-true, cases_Bool}
+use Rattle.std.proofs.lemmas.List.Sums.{sum_by-cons}
 use Rattle.edge_base.specs.declared.geometry.Request.{Request}
 use Rattle.edge_base.specs.declared.node.Master.{Master}
 use Rattle.edge_base.specs.declared.node.Metaroot.{Metaroot}
 use Rattle.edge_base.specs.declared.node.NodeFault.{NodeFault}
-use Rattle.edge_base.specs.layout.Places.{imap_nodes_of, inode_place_of, first_allocable_of, allocable_of}
+use Rattle.edge_base.specs.layout.Bitmap.{live_place, used_under}
+use Rattle.edge_base.specs.layout.Places.{imap_nodes_of, is_inline_of, table_start_of, inode_place_of, first_allocable_of, allocable_of}
 use Rattle.edge_base.specs.layout.Bytes.{bit_in}
-use Rattle.edge_base.specs.layout.Sizes.{place_of}
+use Rattle.edge_base.specs.layout.Sizes.{place_of, node_bits}
 use Rattle.edge_base.specs.layout.Spelling.{master_in, metaroot_in}
+use Rattle.edge_base.proofs.LayoutLaws.{node_of_bit}
 use Rattle.edge_disk.specs.Image.{Image}
 use Rattle.edge_store.specs.View.{View, is_allocable, is_number}
 use Rattle.edge_model.specs.Tree.{Tree}
-use Rattle.edge_image.specs.Image.{Live, greater, live_among, live_of, is_used, spells_imap, imap_block_of, has_bad_imap, free_blocks_of, free_inodes_of}
+use Rattle.edge_image.specs.Image.{Live, greater, live_among, live_of, roots_in, used_in, is_unused, is_free, spells_imap, has_bad_imap, free_blocks_of, free_inodes_of}
 use Rattle.edge_image.specs.Ready.{IsMountable}
-use Rattle.edge_image.specs.View.{inode_at, inode_by, inode_under, block_told, block_under, used_in, view_of}
+use Rattle.edge_image.specs.View.{inode_at, inode_by, inode_under, block_told, block_under, view_of}
 use Rattle.edge_image.specs.Opens.{OpensTo, StandsFor, IsAlike}
 use Rattle.edge_image.proofs.GeometryLaws.{usable}
 use Rattle.edge_image.proofs.ReasonLaws.{without_a_reason, mountable}
@@ -49,8 +52,8 @@ low_place : (second : Bool) → place_of second ≤ 1
 low_place true = omega arith
 low_place false = omega arith
 
-imap_below : (g : Request) (root : List ℕ) (i : ℕ) → first_allocable_of g ≤ g.blocks → i < imap_nodes_of g → imap_block_of g root i < g.blocks
-imap_below g root i room below = let low = low_place (bit_in 32 root i) in omega arith
+imap_below : (g : Request) (roots : List ℕ) (i : ℕ) → first_allocable_of g ≤ g.blocks → i < imap_nodes_of g → live_place g roots i < g.blocks
+imap_below g roots i room below = let low = low_place (bit_in 0 roots i) in omega arith
 
 -- ---- places of inodes
 
@@ -71,7 +74,26 @@ block_inside g b room is =
     inside : (first blocks b : ℕ) → first ≤ blocks → b < first + (blocks - first) → b < blocks
     inside first blocks b room below = omega arith
 
+behind_table : (g : Request) (b : ℕ) → is_allocable g b ≡ true → table_start_of g ≤ b
+behind_table g b is =
+    let from = leb-true (first_allocable_of g) b (and_parts (nat_le (first_allocable_of g) b) (nat_lt b (first_allocable_of g + allocable_of g)) is).0 in
+    omega arith
+
 -- ---- the view
+
+cond_else : (b x y z : Bool) → (b ≡ false → y ≡ z) → cond b x y ≡ cond b x z
+cond_else true x y z same = refl
+cond_else false x y z same = same refl
+
+pub count-cons : (p : ℕ → Bool) (x : ℕ) (xs : List ℕ) → count_by p (x ∷ xs) ≡ cond (p x) 1 0 + count_by p xs
+count-cons p x xs = sum_by-cons (λ (y : ℕ). cond (p y) 1 0) x xs
+
+pub count_alike : (p q : ℕ → Bool) (a n : ℕ) → ((i : ℕ) → a ≤ i → i < a + n → p i ≡ q i) → count_by p (range_with_len a n) ≡ count_by q (range_with_len a n)
+count_alike p q a zero same = refl
+count_alike p q a (suc n) same =
+    let first = same a (omega arith) (omega arith) in
+    let rest = count_alike p q (a + 1) n (λ i from to. same i (omega arith) (omega arith)) in
+    count-cons p a (range_with_len (a + 1) n) ∙ (λ t. cond (first t) 1 0 + rest t) ∙ sym (count-cons q a (range_with_len (a + 1) n))
 
 cond_alike : {A : Type 0} (b : Bool) (x y : Option A) → (b ≡ true → x ≡ y) → cond b x None ≡ cond b y None
 cond_alike true x y same = same refl
@@ -90,20 +112,51 @@ module _ (g : Request) (image other : Image) (alike : IsAlike image other) (fits
         | false ↦ elim second as (λ t. inode_by g other.block n false t ≡ inode_by g image.block n false t) [ true ↦ cc | false ↦ cc ]
       ]
 
-  inode_alike : (used : ℕ → Bool) (n : ℕ) → inode_under g used other.block n ≡ inode_under g used image.block n
-  inode_alike used n = cond_alike (is_number g n) _ _ (inode_by_alike n (used (inode_place_of g n false)) (used (inode_place_of g n true)))
+  -- a block from the inode table on is used in both or in none
+  used_alike : 16 < g.block_size → (live : Live) → other.block live.place ≡ image.block live.place → (b : ℕ) → table_start_of g ≤ b → b < g.blocks → used_in g other live b ≡ used_in g image live b
+  used_alike long live root b from below =
+      let i = b - table_start_of g in
+      let node = i / node_bits g.block_size in
+      let at = live_place g (roots_in image live) node in
+      ap (λ (bytes : List ℕ). used_under g (drop 32 bytes) other.block b) root
+      ∙ cond_else (is_inline_of g) (bit_in 0 (roots_in image live) i) (bit_in 16 (other.block at) (i % node_bits g.block_size)) (bit_in 16 (image.block at) (i % node_bits g.block_size)) (λ external.
+      ap (λ bytes. bit_in 16 bytes (i % node_bits g.block_size)) (same_block at (imap_below g (roots_in image live) node room (node_of_bit g long external b from below))))
 
-  block_alike : (used : ℕ → Bool) (b : ℕ) → block_under g used other.block b ≡ block_under g used image.block b
-  block_alike used b = cond_alike _ _ _ (λ is. ap (λ x. Some (block_told g x)) (same_block b (block_inside g b room (and_parts (is_allocable g b) _ is).0)))
+  module _ (long : 16 < g.block_size) (live : Live) (root : other.block live.place ≡ image.block live.place) where
+    inode_alike : (n : ℕ) → inode_under g (used_in g other live) other.block n ≡ inode_under g (used_in g image live) image.block n
+    inode_alike n = cond_alike (is_number g n) _ _ (λ is.
+        let first = used_alike long live root (inode_place_of g n false) (omega arith) (place_inside g n false room is) in
+        let second = used_alike long live root (inode_place_of g n true) (omega arith) (place_inside g n true room is) in
+        (λ t. inode_by g other.block n (first t) (second t)) ∙ inode_by_alike n (used_in g image live (inode_place_of g n false)) (used_in g image live (inode_place_of g n true)) is)
 
-  view_alike : (live : Live) → other.block live.place ≡ image.block live.place → view_of g other live ≡ view_of g image live
-  unfolding view_of
-  view_alike live root =
-      let bits : used_in g other live ≡ used_in g image live = ap (is_used g) root in
-      λ t. record {
-        inodes = λ n. (ap (λ (used : ℕ → Bool). inode_under g used other.block n) bits ∙ inode_alike (used_in g image live) n) t;
-        blocks = λ b. (ap (λ (used : ℕ → Bool). block_under g used other.block b) bits ∙ block_alike (used_in g image live) b) t;
-      }
+    block_alike : (b : ℕ) → block_under g (used_in g other live) other.block b ≡ block_under g (used_in g image live) image.block b
+    block_alike b = elim (cases_Bool (is_allocable g b)) [
+      | inl is ↦
+          let inside = block_inside g b room is in
+          let bytes = same_block b inside in
+          let used = used_alike long live root b (behind_table g b is) inside in
+          λ t. cond (is_allocable g b && used t) (Some (block_told g (bytes t))) None
+      | inr not_it ↦ (λ t. cond (not_it t && used_in g other live b) (Some (block_told g (other.block b))) None) ∙ sym (λ t. cond (not_it t && used_in g image live b) (Some (block_told g (image.block b))) None)
+    ]
+
+    view_alike : view_of g other live ≡ view_of g image live
+    unfolding view_of
+    view_alike = λ t. record { inodes = λ n. inode_alike n t; blocks = λ b. block_alike b t }
+
+    free_blocks_alike : free_blocks_of g (used_in g other live) ≡ free_blocks_of g (used_in g image live)
+    free_blocks_alike = count_alike (is_unused (used_in g other live)) (is_unused (used_in g image live)) (first_allocable_of g) (allocable_of g) (λ b from below. ap not (used_alike long live root b (omega arith) (omega arith)))
+
+    free_inodes_alike : free_inodes_of g (used_in g other live) ≡ free_inodes_of g (used_in g image live)
+    free_inodes_alike = count_alike (is_free g (used_in g other live)) (is_free g (used_in g image live)) 2 g.inodes (λ n from below.
+        let first = used_alike long live root (inode_place_of g n false) (omega arith) (omega arith) in
+        let second = used_alike long live root (inode_place_of g n true) (omega arith) (omega arith) in
+        λ t. not (first t) && not (second t))
+
+    bad_imap_alike : has_bad_imap g (roots_in other live) other.block ≡ has_bad_imap g (roots_in image live) image.block
+    bad_imap_alike =
+        ap (λ (bytes : List ℕ). has_bad_imap g (drop 32 bytes) other.block) root
+        ∙ any_alike (λ i. not (spells_imap g i (other.block (live_place g (roots_in image live) i)))) (λ i. not (spells_imap g i (image.block (live_place g (roots_in image live) i)))) 0 (imap_nodes_of g)
+        (λ i from below. ap (λ b. not (spells_imap g i b)) (same_block (live_place g (roots_in image live) i) (imap_below g (roots_in image live) i room (omega arith))))
 
 -- ---- what an image is mounted with
 
@@ -115,8 +168,9 @@ mounted_with image t opens =
     let live : so.1 ≡ opens.live = let e = sym so.2.is_live ∙ ap (λ (m : Master). live_of m.geometry image) master ∙ opens.is_live in cc in
     subst (IsMountable image opens.master) live (subst (λ (m : Master). IsMountable image m so.1) master so.2)
 
-mounted_alike : (image other : Image) (master : Master) (live : Live) → IsAlike image other → first_allocable_of master.geometry ≤ master.geometry.blocks → IsMountable image master live → IsMountable other master live
-mounted_alike image other master live alike room is =
+mounted_alike : (image other : Image) (master : Master) (live : Live) → IsAlike image other → first_allocable_of master.geometry ≤ master.geometry.blocks → 16 < master.geometry.block_size → IsMountable image master live
+    → IsMountable other master live
+mounted_alike image other master live alike room long is =
     let g = master.geometry in
     let same : (b : ℕ) → b < 3 → other.block b ≡ image.block b = λ b low. alike.same b (let enough = is.blocks in omega arith) in
     let zero_same = same 0 (omega arith) in
@@ -130,12 +184,9 @@ mounted_alike image other master live alike room is =
       fits = subst (λ (n : ℕ). g.blocks ≤ n) (sym alike.blocks) is.fits;
       is_live = (λ t. live_among (metaroot_in g (one_same t)) (metaroot_in g (two_same t))) ∙ is.is_live;
       sequence = is.sequence;
-      imap_nodes = ap (has_bad_imap g other) root
-          ∙ any_alike (λ i. not (spells_imap g i (other.block (imap_block_of g (image.block live.place) i)))) (λ i. not (spells_imap g i (image.block (imap_block_of g (image.block live.place) i)))) 0 (imap_nodes_of g)
-          (λ i from below. ap (λ b. not (spells_imap g i b)) (same_block g image other alike is.fits room (imap_block_of g (image.block live.place) i) (imap_below g (image.block live.place) i room (omega arith))))
-          ∙ is.imap_nodes;
-      free_blocks = is.free_blocks ∙ ap (free_blocks_of g) (sym root);
-      free_inodes = is.free_inodes ∙ ap (free_inodes_of g) (sym root);
+      imap_nodes = bad_imap_alike g image other alike is.fits room long live root ∙ is.imap_nodes;
+      free_blocks = is.free_blocks ∙ sym (free_blocks_alike g image other alike is.fits room long live root);
+      free_inodes = is.free_inodes ∙ sym (free_inodes_alike g image other alike is.fits room long live root);
       room = is.room;
     }
 
@@ -143,10 +194,12 @@ pub opens_alike : (image other : Image) (t : Tree) → IsAlike image other → O
 opens_alike image other t alike opens =
     let g = opens.master.geometry in
     let is = mounted_with image t opens in
-    let room = (usable (image.block 0) opens.master opens.is_master).room in
-    let then = mounted_alike image other opens.master opens.live alike room is in
+    let is_usable = usable (image.block 0) opens.master opens.is_master in
+    let room = is_usable.room in
+    let long : 16 < g.block_size = let least = is_usable.long in omega arith in
+    let then = mounted_alike image other opens.master opens.live alike room long is in
     let low = place_below (metaroot_in g (image.block 1)) (metaroot_in g (image.block 2)) opens.live opens.is_live in
-    let view = view_alike g image other alike is.fits room opens.live (alike.same opens.live.place (let enough = is.blocks in omega arith)) in
+    let view = view_alike g image other alike is.fits room long opens.live (alike.same opens.live.place (let enough = is.blocks in omega arith)) in
     record {
       mounts = mountable other (opens.master, opens.live, then);
       master = opens.master;

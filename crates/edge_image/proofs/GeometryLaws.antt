@@ -17,6 +17,7 @@ use Rattle.edge_base.specs.layout.Bytes.{number_at, signature_in, is_zero}
 use Rattle.edge_base.specs.layout.Spelling.{master_signature, request_in, master_in}
 
 pub record IsUsable (g : Request) : Type 0 where
+  pub long : 512 ≤ g.block_size
   pub some_bytes : 0 < g.block_size
   pub some_slots : 0 < slots_in_block g
   pub few_inodes : g.inodes ≤ 65536
@@ -58,7 +59,7 @@ limits g e =
     let short = ltb-false 252 g.name_max (or_parts (nat_lt g.name_max 12) (nat_lt 252 g.name_max) (or_parts (nat_lt g.name_max 12 || nat_lt 252 g.name_max) (not (g.name_max % 4 == 0)) names.0).0).1 in
     let pointers = kept ((g.direct == 0) || nat_lt (entries_of g) (g.direct + g.indirect)) Pointers _ names.1 in
     let room = ltb-false (allocable_of g) 3 (kept (nat_lt (allocable_of g) 3) Room _ pointers.1).0 in
-    record { some_bytes = omega arith; some_slots = some_slot g.block_size g.name_max long short; few_inodes = few; room = behind g.blocks (first_allocable_of g) room }
+    record { long = long; some_bytes = omega arith; some_slots = some_slot g.block_size g.name_max long short; few_inodes = few; room = behind g.blocks (first_allocable_of g) room }
 
 -- ---- a master
 

@@ -10,7 +10,7 @@ use Rattle.edge_base.specs.layout.Spelling.{inode_in}
 use Rattle.edge_disk.specs.Image.{Image}
 use Rattle.edge_store.specs.View.{whole, broken, is_number}
 use Rattle.edge_model.specs.Tree.{Tree}
-use Rattle.edge_image.specs.Image.{Live, is_used, used_place}
+use Rattle.edge_image.specs.Image.{Live, used_in, used_place}
 use Rattle.edge_image.specs.Ready.{IsReady}
 use Rattle.edge_image.specs.View.{inode_told, inode_at, inode_by, view_of}
 use Rattle.edge_image.specs.Opens.{OpensTo, head_of_node, HasHead}
@@ -21,31 +21,31 @@ told_head g place bytes head entries (Ok other) e = cc
 told_head g place bytes head entries (Err fault) e = absurd cc
 
 -- a number's inode stands at its one used place
-pub record HasPlace (g : Request) (image : Image) (root : List ℕ) (n : ℕ) (head : Head) : Type 0 where
+pub record HasPlace (g : Request) (image : Image) (used : ℕ → Bool) (n : ℕ) (head : Head) : Type 0 where
   pub place : ℕ
-  pub one_place : used_place g root n ≡ Some place
+  pub one_place : used_place g used n ≡ Some place
   pub spells : inode_in (image.block place) ≡ Ok head
 
-placed_by : (g : Request) (image : Image) (root : List ℕ) (n : ℕ) (head : Head) (entries : List ℕ) (first second : Bool) → is_used g root (inode_place_of g n false) ≡ first → is_used g root (inode_place_of g n true) ≡ second
-    → inode_by g image.block n first second ≡ Some (whole head entries) → HasPlace g image root n head
-placed_by g image root n head entries true true f s e = absurd (let wrong : Some (broken _) ≡ Some (whole head entries) = e in cc)
-placed_by g image root n head entries true false f s e =
+placed_by : (g : Request) (image : Image) (used : ℕ → Bool) (n : ℕ) (head : Head) (entries : List ℕ) (first second : Bool) → used (inode_place_of g n false) ≡ first → used (inode_place_of g n true) ≡ second
+    → inode_by g image.block n first second ≡ Some (whole head entries) → HasPlace g image used n head
+placed_by g image used n head entries true true f s e = absurd (let wrong : Some (broken _) ≡ Some (whole head entries) = e in cc)
+placed_by g image used n head entries true false f s e =
     let here : inode_at g (inode_place_of g n false) (image.block (inode_place_of g n false)) ≡ whole head entries = cc in
     record { place = inode_place_of g n false; one_place = cc; spells = told_head g (inode_place_of g n false) (image.block (inode_place_of g n false)) head entries _ here }
-placed_by g image root n head entries false true f s e =
+placed_by g image used n head entries false true f s e =
     let here : inode_at g (inode_place_of g n true) (image.block (inode_place_of g n true)) ≡ whole head entries = cc in
     record { place = inode_place_of g n true; one_place = cc; spells = told_head g (inode_place_of g n true) (image.block (inode_place_of g n true)) head entries _ here }
-placed_by g image root n head entries false false f s e = absurd (let wrong : None ≡ Some (whole head entries) = e in cc)
+placed_by g image used n head entries false false f s e = absurd (let wrong : None ≡ Some (whole head entries) = e in cc)
 
-placed_if : (g : Request) (image : Image) (root : List ℕ) (n : ℕ) (head : Head) (entries : List ℕ) (inside : Bool)
-    → cond inside (inode_by g image.block n (is_used g root (inode_place_of g n false)) (is_used g root (inode_place_of g n true))) None ≡ Some (whole head entries) → HasPlace g image root n head
-placed_if g image root n head entries true e = placed_by g image root n head entries _ _ refl refl e
-placed_if g image root n head entries false e = absurd (let wrong : None ≡ Some (whole head entries) = e in cc)
+placed_if : (g : Request) (image : Image) (used : ℕ → Bool) (n : ℕ) (head : Head) (entries : List ℕ) (inside : Bool)
+    → cond inside (inode_by g image.block n (used (inode_place_of g n false)) (used (inode_place_of g n true))) None ≡ Some (whole head entries) → HasPlace g image used n head
+placed_if g image used n head entries true e = placed_by g image used n head entries _ _ refl refl e
+placed_if g image used n head entries false e = absurd (let wrong : None ≡ Some (whole head entries) = e in cc)
 
 -- a whole inode of the view of an image stands at its one used place
-pub placed : (g : Request) (image : Image) (live : Live) (n : ℕ) (head : Head) → HasHead (view_of g image live) n head → HasPlace g image (image.block live.place) n head
+pub placed : (g : Request) (image : Image) (live : Live) (n : ℕ) (head : Head) → HasHead (view_of g image live) n head → HasPlace g image (used_in g image live) n head
 unfolding view_of
-placed g image live n head has_head = placed_if g image (image.block live.place) n head has_head.entries (is_number g n) has_head.inode
+placed g image live n head has_head = placed_if g image (used_in g image live) n head has_head.entries (is_number g n) has_head.inode
 
 pub opens_ready : (image : Image) (t : Tree) (node : Node) → (opens : OpensTo image t) → t 2 ≡ Some node → IsReady image (head_of_node opens.master.geometry t 2 node)
 opens_ready image t node opens is_root =

@@ -8,7 +8,7 @@ use Rattle.edge_base.specs.declared.node.Metaroot.{Metaroot}
 use Rattle.edge_base.specs.declared.node.NodeFault.{NodeFault}
 use Rattle.edge_base.specs.layout.Spelling.{master_in}
 use Rattle.edge_disk.specs.Image.{Image}
-use Rattle.edge_image.specs.Image.{Live, live_of, free_blocks_of, free_inodes_of, has_bad_imap, counts_hold, reason_of_counts, reason_of_live, reason_of_master, reason_of}
+use Rattle.edge_image.specs.Image.{Live, live_of, roots_in, used_in, free_blocks_of, free_inodes_of, has_bad_imap, counts_hold, reason_of_counts, reason_of_live, reason_of_master, reason_of}
 use Rattle.edge_image.specs.Ready.{IsMountable}
 
 passed : (b : Bool) (r : ℕ) (rest : Option ℕ) → (if b then Some r else rest) ≡ None → (b ≡ false) × (rest ≡ None)
@@ -33,31 +33,31 @@ below a b e = ltb-false a b e
 
 -- ---- counts
 
-record CountsHold (g : Request) (root : Metaroot) (bytes : List ℕ) : Type 0 where
-  blocks : root.free_blocks ≡ free_blocks_of g bytes
-  inodes : root.free_inodes ≡ free_inodes_of g bytes
+record CountsHold (g : Request) (root : Metaroot) (used : ℕ → Bool) : Type 0 where
+  blocks : root.free_blocks ≡ free_blocks_of g used
+  inodes : root.free_inodes ≡ free_inodes_of g used
   room : 3 ≤ root.free_blocks
 
-counts_of : (g : Request) (root : Metaroot) (bytes : List ℕ) → reason_of_counts g root bytes ≡ None → CountsHold g root bytes
-counts_of g root bytes e =
-    let first = passed (not (counts_hold g root bytes)) 7 _ e in
-    let second = passed (nat_lt (free_blocks_of g bytes) 3) 8 None first.1 in
-    let equal = both (root.free_blocks == free_blocks_of g bytes) (root.free_inodes == free_inodes_of g bytes) (was (counts_hold g root bytes) first.0) in
-    let same = eqb-true root.free_blocks (free_blocks_of g bytes) equal.0 in
+counts_of : (g : Request) (root : Metaroot) (used : ℕ → Bool) → reason_of_counts g root used ≡ None → CountsHold g root used
+counts_of g root used e =
+    let first = passed (not (counts_hold g root used)) 7 _ e in
+    let second = passed (nat_lt (free_blocks_of g used) 3) 8 None first.1 in
+    let equal = both (root.free_blocks == free_blocks_of g used) (root.free_inodes == free_inodes_of g used) (was (counts_hold g root used) first.0) in
+    let same = eqb-true root.free_blocks (free_blocks_of g used) equal.0 in
     record {
       blocks = same;
-      inodes = eqb-true root.free_inodes (free_inodes_of g bytes) equal.1;
-      room = let enough = below (free_blocks_of g bytes) 3 second.0 in omega arith;
+      inodes = eqb-true root.free_inodes (free_inodes_of g used) equal.1;
+      room = let enough = below (free_blocks_of g used) 3 second.0 in omega arith;
     }
 
-counts_back : (g : Request) (root : Metaroot) (bytes : List ℕ) → CountsHold g root bytes → reason_of_counts g root bytes ≡ None
-counts_back g root bytes c =
-    let blocks = eq-eqb root.free_blocks (free_blocks_of g bytes) c.blocks in
-    let inodes = eq-eqb root.free_inodes (free_inodes_of g bytes) c.inodes in
-    let hold : counts_hold g root bytes ≡ true = ap (λ a. a && (root.free_inodes == free_inodes_of g bytes)) blocks ∙ inodes in
+counts_back : (g : Request) (root : Metaroot) (used : ℕ → Bool) → CountsHold g root used → reason_of_counts g root used ≡ None
+counts_back g root used c =
+    let blocks = eq-eqb root.free_blocks (free_blocks_of g used) c.blocks in
+    let inodes = eq-eqb root.free_inodes (free_inodes_of g used) c.inodes in
+    let hold : counts_hold g root used ≡ true = ap (λ a. a && (root.free_inodes == free_inodes_of g used)) blocks ∙ inodes in
     let same = c.blocks in
     let enough = c.room in
-    passes (not (counts_hold g root bytes)) 7 _ (ap not hold) (passes (nat_lt (free_blocks_of g bytes) 3) 8 None (le-ltb (free_blocks_of g bytes) 3 (omega arith)) refl)
+    passes (not (counts_hold g root used)) 7 _ (ap not hold) (passes (nat_lt (free_blocks_of g used) 3) 8 None (le-ltb (free_blocks_of g used) 3 (omega arith)) refl)
 
 -- ---- the live metaroot
 
@@ -65,20 +65,20 @@ record LiveHolds (g : Request) (image : Image) (found : Option Live) : Type 0 wh
   live : Live
   is : found ≡ Some live
   sequence : live.root.sequence ≤ 2 ^ 63
-  imap_nodes : has_bad_imap g image (image.block live.place) ≡ false
-  counts : CountsHold g live.root (image.block live.place)
+  imap_nodes : has_bad_imap g (roots_in image live) image.block ≡ false
+  counts : CountsHold g live.root (used_in g image live)
 
 live_holds : (g : Request) (image : Image) (found : Option Live) → reason_of_live g image found ≡ None → LiveHolds g image found
 live_holds g image None e = absurd cc
 live_holds g image (Some live) e =
     let first = passed (nat_lt (2 ^ 63) live.root.sequence) 5 _ e in
-    let second = passed (has_bad_imap g image (image.block live.place)) 6 _ first.1 in
-    record { live = live; is = refl; sequence = below (2 ^ 63) live.root.sequence first.0; imap_nodes = second.0; counts = counts_of g live.root (image.block live.place) second.1 }
+    let second = passed (has_bad_imap g (roots_in image live) image.block) 6 _ first.1 in
+    record { live = live; is = refl; sequence = below (2 ^ 63) live.root.sequence first.0; imap_nodes = second.0; counts = counts_of g live.root (used_in g image live) second.1 }
 
 live_back : (g : Request) (image : Image) (found : Option Live) → LiveHolds g image found → reason_of_live g image found ≡ None
 live_back g image found l = ap (reason_of_live g image) l.is
     ∙ passes (nat_lt (2 ^ 63) l.live.root.sequence) 5 _ (le-ltb (2 ^ 63) l.live.root.sequence l.sequence)
-    (passes (has_bad_imap g image (image.block l.live.place)) 6 _ l.imap_nodes (counts_back g l.live.root (image.block l.live.place) l.counts))
+    (passes (has_bad_imap g (roots_in image l.live) image.block) 6 _ l.imap_nodes (counts_back g l.live.root (used_in g image l.live) l.counts))
 
 -- ---- the master
 
@@ -136,7 +136,7 @@ mountable image so =
     let master = so.0 in
     let live = so.1 in
     let i = so.2 in
-    let counts : CountsHold master.geometry live.root (image.block live.place) = record { blocks = i.free_blocks; inodes = i.free_inodes; room = i.room } in
+    let counts : CountsHold master.geometry live.root (used_in master.geometry image live) = record { blocks = i.free_blocks; inodes = i.free_inodes; room = i.room } in
     let holds : LiveHolds master.geometry image (live_of master.geometry image) = record { live = live; is = i.is_live; sequence = i.sequence; imap_nodes = i.imap_nodes; counts = counts } in
     passes (nat_lt image.blocks 3) 1 _ (le-ltb image.blocks 3 i.blocks)
     (master_back image (master_in (image.block 0)) (record { master = master; is = i.is_master; size = i.size; fits = i.fits; live = holds }))

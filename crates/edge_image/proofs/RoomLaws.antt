@@ -17,8 +17,7 @@ use Rattle.edge_store.specs.View.{View, Block, content, is_owned_by, is_spot, is
 use Rattle.edge_store.specs.Placed.{block_at}
 use Rattle.edge_store.specs.Counted.{Occupy}
 use Rattle.edge_model.specs.Tree.{Tree, numbers_of, node_positions, tree_positions}
-use Rattle.edge_image.specs.Image as bits
-use Rattle.edge_image.specs.Image.{Live}
+use Rattle.edge_image.specs.Image.{Live, used_in}
 use Rattle.edge_image.specs.View.{block_told, view_of}
 use Rattle.edge_image.specs.Opens.{StandsFor, OpensTo}
 use Rattle.edge_image.specs.Room.{UsesAllocable}
@@ -85,32 +84,32 @@ as_many g v t allocable stands = count_by-LeadTo (occupied g v t allocable stand
 is_bit : (allocable bit : Bool) (block : Block) → is_some (cond (allocable && bit) (Some block) None) ≡ true → (allocable && bit) ≡ true
 is_bit allocable bit block e = elim (allocable && bit) as (λ b. is_some (cond b (Some block) None) ≡ true → b ≡ true) [ true ↦ λ yes. refl | false ↦ λ no. no ] e
 
-used_bit : (g : Request) (image : Image) (live : Live) (b : ℕ) → is_used (view_of g image live) b ≡ true → (is_allocable g b && bits.is_used g (image.block live.place) b) ≡ true
+used_bit : (g : Request) (image : Image) (live : Live) (b : ℕ) → is_used (view_of g image live) b ≡ true → (is_allocable g b && used_in g image live b) ≡ true
 unfolding view_of
-used_bit g image live b used = is_bit (is_allocable g b) (bits.is_used g (image.block live.place) b) (block_told g (image.block b)) used
+used_bit g image live b used = is_bit (is_allocable g b) (used_in g image live b) (block_told g (image.block b)) used
 
-bit_used : (g : Request) (image : Image) (live : Live) (b : ℕ) → (is_allocable g b && bits.is_used g (image.block live.place) b) ≡ true → is_used (view_of g image live) b ≡ true
+bit_used : (g : Request) (image : Image) (live : Live) (b : ℕ) → (is_allocable g b && used_in g image live b) ≡ true → is_used (view_of g image live) b ≡ true
 unfolding view_of
 bit_used g image live b e = ap (λ t. is_some (cond t (Some (block_told g (image.block b))) None)) e
 
 pub view_allocable : (g : Request) (image : Image) (live : Live) → UsesAllocable g (view_of g image live)
-view_allocable g image live b used = (and_parts (is_allocable g b) (bits.is_used g (image.block live.place) b) (used_bit g image live b used)).0
+view_allocable g image live b used = (and_parts (is_allocable g b) (used_in g image live b) (used_bit g image live b used)).0
 
 in_allocable : (g : Request) (b : ℕ) → first_allocable_of g ≤ b → b < first_allocable_of g + allocable_of g → is_allocable g b ≡ true
 in_allocable g b from below = and_from (nat_le (first_allocable_of g) b) (nat_lt b (first_allocable_of g + allocable_of g)) (le-leb (first_allocable_of g) b from) (lt-ltb b (first_allocable_of g + allocable_of g) below)
 
 -- the same blocks by the bitmap of the live metaroot
 occupied_bits : (g : Request) (image : Image) (live : Live) (t : Tree) → StandsFor g (view_of g image live) t
-    → LeadTo (block_at g (view_of g image live)) (tree_positions g t) (bits.is_used g (image.block live.place)) (first_allocable_of g) (allocable_of g)
+    → LeadTo (block_at g (view_of g image live)) (tree_positions g t) (used_in g image live) (first_allocable_of g) (allocable_of g)
 occupied_bits g image live t stands =
     let all = occupied g (view_of g image live) t (view_allocable g image live) stands in
     record {
       inside = λ p e.
           let i = all.inside p e in
           let b = block_at g (view_of g image live) p in
-          (i.0, i.1, (and_parts (is_allocable g b) (bits.is_used g (image.block live.place) b) (used_bit g image live b i.2)).1);
+          (i.0, i.1, (and_parts (is_allocable g b) (used_in g image live b) (used_bit g image live b i.2)).1);
       once = all.once;
-      each = λ b from below bit. all.each b from below (bit_used g image live b (and_from (is_allocable g b) (bits.is_used g (image.block live.place) b) (in_allocable g b from below) bit));
+      each = λ b from below bit. all.each b from below (bit_used g image live b (and_from (is_allocable g b) (used_in g image live b) (in_allocable g b from below) bit));
     }
 
 pub free_and_placed : (image : Image) (t : Tree) → (opens : OpensTo image t) → opens.live.root.free_blocks + count_of (tree_positions opens.master.geometry t) ≡ allocable_of opens.master.geometry

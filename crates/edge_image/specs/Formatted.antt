@@ -1,16 +1,16 @@
 -- What formatting makes of an image, and what such an image opens to.
-use Rattle.std.specs.Prelude.{◌≡◌, ◌≤◌, ℕ, ◌-◌, ◌==◌, false, List, replicate, Ok}
+use Rattle.std.specs.Prelude.{◌≡◌, ◌<◌, ◌≤◌, ℕ, ◌-◌, ◌==◌, ◌&&◌, false, List, replicate, Ok}
 use Rattle.edge_base.specs.declared.geometry.Request.{Request}
 use Rattle.edge_base.specs.declared.node.Head.{Head}
 use Rattle.edge_base.specs.declared.node.Master.{Master}
 use Rattle.edge_base.specs.declared.node.Metaroot.{Metaroot}
 use Rattle.edge_base.specs.declared.node.NodeType.TheVariants.{Directory}
-use Rattle.edge_base.specs.layout.Places.{entries_of, table_start_of, inode_place_of, first_allocable_of, allocable_of}
-use Rattle.edge_base.specs.layout.Bytes.{number_at, numbers_at}
-use Rattle.edge_base.specs.layout.Spelling.{master_in, metaroot_in, inode_in}
+use Rattle.edge_base.specs.layout.Places.{entries_of, is_inline_of, imap_nodes_of, imap_place_of, inode_place_of, first_allocable_of, allocable_of}
+use Rattle.edge_base.specs.layout.Bytes.{number_at, numbers_at, bit_in}
+use Rattle.edge_base.specs.layout.Spelling.{master_in, metaroot_in, imap_in, inode_in}
 use Rattle.edge_disk.specs.Image.{Image}
 use Rattle.edge_model.specs.Tree.{only_root}
-use Rattle.edge_image.specs.Image.{is_used, root_number}
+use Rattle.edge_image.specs.Image.{root_number}
 use Rattle.edge_image.specs.Opens.{OpensTo}
 
 -- the master of a geometry, and of the time of formatting
@@ -32,10 +32,20 @@ root_place g = inode_place_of g root_number false
 abbrev pub zero_block : Request → List ℕ
 zero_block g = replicate g.block_size 0
 
--- The block spells the first metaroot. Of the blocks from the inode table on, the root's first place alone is used.
+-- The block spells the first metaroot. Of its bits the first alone is set, that of the root's first place; where there are imap nodes none
+-- is, so that the first of each pair is live.
 pub record HasFirstMetaroot (g : Request) (b : List ℕ) : Type 0 where
   pub spells : metaroot_in g b ≡ Ok (first_metaroot g)
-  pub used : (k : ℕ) → table_start_of g ≤ k → is_used g b k ≡ (k == root_place g)
+  pub bits : (k : ℕ) → bit_in 32 b k ≡ (is_inline_of g && (k == 0))
+
+-- The block spells imap node i, with sequence number 1. Of the bits of all nodes the first alone is set.
+pub record HasFirstImap (g : Request) (i : ℕ) (b : List ℕ) : Type 0 where
+  pub spells : imap_in g i b ≡ Ok 1
+  pub bits : (k : ℕ) → bit_in 16 b k ≡ ((i == 0) && (k == 0))
+
+-- each first node of a pair of imap nodes is such a one
+abbrev pub HasFirstImaps : Request → (ℕ → List ℕ) → Type 0
+HasFirstImaps g content = (i : ℕ) → i < imap_nodes_of g → HasFirstImap g i (content (imap_place_of g i false))
 
 -- The block spells the inode of an empty root, with sequence number 1 and no block.
 pub record HasEmptyRoot (g : Request) (b : List ℕ) : Type 0 where
@@ -49,6 +59,7 @@ pub record IsFormatted (g : Request) (time : ℕ) (image : Image) : Type 0 where
   pub blocks : g.blocks ≤ image.blocks
   pub master : master_in (image.block 0) ≡ Ok (master_of g time)
   pub metaroot : HasFirstMetaroot g (image.block 1)
+  pub imap : HasFirstImaps g image.block
   pub second : image.block 2 ≡ zero_block g
   pub root : HasEmptyRoot g (image.block (root_place g))
 
@@ -57,5 +68,5 @@ pub record OpensFresh (g : Request) (time : ℕ) (image : Image) : Type 0 where
   pub opens : OpensTo image only_root
   pub master : opens.master ≡ master_of g time
   pub sequence : opens.live.root.sequence ≡ 1
-  -- its four blocks are the fresh ones
+  -- its nodes are the fresh ones
   pub formatted : IsFormatted g time image

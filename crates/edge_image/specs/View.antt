@@ -1,4 +1,4 @@
--- The view of an image: the inodes and the blocks that the bitmap of its live metaroot says are used.
+-- The view of an image: the inodes and the blocks that its bitmap says are used.
 use Rattle.std.specs.Prelude.{ℕ, ◌&&◌, Bool, true, false, if◌then◌else◌, List, Option, Some, None, Result, Ok, Err}
 use Rattle.edge_base.specs.declared.damage.DamageKind.TheVariants as kinds
 use Rattle.edge_base.specs.declared.geometry.Request.{Request}
@@ -9,7 +9,7 @@ use Rattle.edge_base.specs.layout.Bytes.{numbers_at}
 use Rattle.edge_base.specs.layout.Spelling.{inode_in, pointer_in}
 use Rattle.edge_disk.specs.Image.{Image}
 use Rattle.edge_store.specs.View.{View, Inode, whole, broken, Block, is_allocable, is_number, kind_of_fault}
-use Rattle.edge_image.specs.Image.{Live, is_used}
+use Rattle.edge_image.specs.Image.{Live, used_in}
 
 -- ---- inodes
 
@@ -49,10 +49,6 @@ block_under g used content b = if is_allocable g b && used b then Some (block_to
 -- the view of blocks that hold this content, of which these are used
 abbrev pub view_over : Request → (ℕ → Bool) → (ℕ → List ℕ) → View
 view_over g used content = record { inodes = inode_under g used content; blocks = block_under g used content }
-
--- the blocks that the bitmap of a live metaroot says are used
-abbrev pub used_in : Request → Image → Live → ℕ → Bool
-used_in g image live = is_used g (image.block live.place)
 
 -- the view below a live metaroot
 unfoldable pub view_of : Request → Image → Live → View

@@ -3,7 +3,7 @@
 //! functions here are laws over them, without effects.
 #![tactic(auto)]
 
-ghost use Rattle.std.specs.Prelude.{◌≡◌, ◌↔◌, ℕ, ◌+◌, List, None, Some, Ok};
+ghost use Rattle.std.specs.Prelude.{◌≡◌, ◌↔◌, ℕ, ◌+◌, Bool, None, Some, Ok};
 ghost use Rattle.edge_base.specs.declared.geometry.Request.{Request};
 ghost use Rattle.edge_base.specs.declared.node.Head.{Head};
 ghost use Rattle.edge_base.specs.declared.node.Master.{Master};
@@ -17,7 +17,7 @@ ghost use Rattle.edge_store.specs.Counted.{Occupy};
 ghost use Rattle.edge_store.specs.Placed.{HasNode};
 ghost use Rattle.edge_model.specs.Tree.{Tree, only_root, tree_positions};
 ghost use Rattle.edge_model.specs.Rules.{IsTree};
-ghost use Rattle.edge_image.specs.Image.{Live, live_of, used_place, place_of, reason_of, head_of, root_number};
+ghost use Rattle.edge_image.specs.Image.{Live, live_of, used_in, used_place, place_of, reason_of, head_of, root_number};
 ghost use Rattle.edge_image.specs.Ready.{IsReady, IsLive, IsMountable};
 ghost use Rattle.edge_image.specs.View.{view_of};
 ghost use Rattle.edge_image.specs.Opens.{OpensTo, StandsFor, IsAlike, head_of_node};
@@ -40,7 +40,7 @@ pub fn mounts_without_a_reason()
 
 /// A number's inode has one place where exactly one of its two places is used.
 pub fn place_is_the_used_one()
-    ensures { (g : Request) (root : List ℕ) (number place : ℕ) → (used_place g root number ≡ Some place) ↔ (place_of g root number ≡ Ok place) }
+    ensures { (g : Request) (used : ℕ → Bool) (number place : ℕ) → (used_place g used number ≡ Some place) ↔ (place_of g used number ≡ Ok place) }
 {}
 
 /// An image is ready with one head alone.
@@ -51,7 +51,7 @@ pub fn ready_with_one_head()
 /// Of an image without a reason, ready is to tell the head of the root directory.
 pub fn ready_tells_the_head()
     ensures { (image : Image) (master : Master) (live : Live) (head : Head) → reason_of image ≡ None → master_in (image.block 0) ≡ Ok master → live_of master.geometry image ≡ Some live
-        → IsReady image head ↔ (head_of master.geometry image (image.block live.place) root_number ≡ Ok head) }
+        → IsReady image head ↔ (head_of master.geometry image (used_in master.geometry image live) root_number ≡ Ok head) }
 {}
 
 /// An image that opens to a tree is ready, with the head of the tree's root.

@@ -3,10 +3,10 @@ use Rattle.std.proofs.Common.{◌≡◌, ℕ, ◌+◌, ◌-◌, ◌*◌, ◌/◌
 use Rattle.std.specs.Prelude.{nat_lt}
 use Rattle.std.proofs.lemmas.Bool.Decides.{nat_tests}
 use Rattle.edge_base.specs.declared.geometry.BadGeometry.{BadGeometry}
-use Rattle.edge_base.specs.declared.geometry.BadGeometry.TheVariants.{BlockSize, Blocks, Inodes, NameMax, Pointers, Room, External}
+use Rattle.edge_base.specs.declared.geometry.BadGeometry.TheVariants.{BlockSize, Blocks, Inodes, NameMax, Pointers, Room}
 use Rattle.edge_base.specs.declared.geometry.Request.{Request}
 use Rattle.edge_base.specs.layout.Sizes.{is_block_size}
-use Rattle.edge_base.specs.layout.Places.{IsGeometry, IsWithinLimits, bad_geometry, is_inline_of, entries_of, allocable_of, imap_nodes_of, root_bits_of}
+use Rattle.edge_base.specs.layout.Places.{IsGeometry, IsWithinLimits, bad_geometry, entries_of, allocable_of}
 
 kept : (broken : Bool) (limit : BadGeometry) (rest : Option BadGeometry) → cond broken (Some limit) rest ≡ None → (broken ≡ false) × (rest ≡ None)
 kept false limit rest e = (refl, e)
@@ -37,7 +37,6 @@ limits g e =
     let names = kept (nat_lt g.name_max 12 || nat_lt 252 g.name_max || not (g.name_max % 4 == 0)) NameMax _ inodes.1 in
     let pointers = kept ((g.direct == 0) || nat_lt (entries_of g) (g.direct + g.indirect)) Pointers _ names.1 in
     let room = kept (nat_lt (allocable_of g) 3) Room _ pointers.1 in
-    let inline = kept (not (is_inline_of g)) External _ room.1 in
     let some_inode = some_at_most g.inodes 65536 g.inodes inodes.0 in
     let name = name_sizes g.name_max (g.name_max % 4) names.0 in
     let direct = some_at_most g.direct (entries_of g) (g.direct + g.indirect) pointers.0 in
@@ -52,7 +51,6 @@ limits g e =
       some_direct = direct.0;
       pointers = direct.1;
       room = at_least 3 (allocable_of g) room.0;
-      inline = is_true _ inline.0;
     }
 
 -- a block is not too short for a node's header, and holds whole numbers of four bytes behind the first 32 and the first 20
@@ -79,9 +77,6 @@ block_long n e = elim (four_sizes n e) [
 
 pub some_blocks : (g : Request) → IsGeometry g → 3 ≤ g.blocks
 some_blocks g e = let room = (limits g e).room in omega arith
-
-pub root_bits_of-inline : (g : Request) → IsGeometry g → root_bits_of g ≡ g.blocks - 3
-root_bits_of-inline g e = ap (λ b. cond b (g.blocks - 3) (imap_nodes_of g)) (limits g e).inline
 
 pub geometry_long : (g : Request) → IsGeometry g → IsBlockLong g.block_size
 geometry_long g e = block_long g.block_size (limits g e).block_size

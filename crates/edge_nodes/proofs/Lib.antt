@@ -7,3 +7,4 @@ pub mod MetarootLaws
 pub mod InodeLaws
 pub mod PointerLaws
 pub mod ChangeLaws
+pub mod ImapLaws

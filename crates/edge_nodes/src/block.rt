@@ -1,5 +1,5 @@
 ghost use Rattle.std.specs.Prelude.{◌≡◌, ◌+◌, ◌*◌, ◌≤◌};
-ghost use Rattle.edge_base.specs.layout.Places.{IsGeometry, entries_of, pointers_of, root_bits_of};
+ghost use Rattle.edge_base.specs.layout.Places.{IsGeometry, entries_of, pointers_of};
 
 use edge_base::Geometry;
 
@@ -13,11 +13,4 @@ pub(crate) fn block_size(g: &Geometry) -> usize
     ensures pointers { 20 + 4 * pointers_of g.now ≡ result }
 {
     g.request().block_size as usize
-}
-
-/// The bits of a metaroot's bitmap.
-pub(crate) fn root_bits(g: &Geometry) -> u32
-    ensures { result ≡ root_bits_of g.now }
-{
-    g.request().blocks - 3
 }

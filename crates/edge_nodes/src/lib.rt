@@ -4,6 +4,7 @@
 mod bits;
 mod block;
 mod change;
+mod imap;
 mod inode;
 mod master;
 mod metaroot;
@@ -14,6 +15,7 @@ mod writing;
 pub use bits::{bit_of, bits_of, entry_of};
 pub use change::{change_entry, change_head, change_pointer, change_sequence};
 pub use edge_base::{Head, Master, Metaroot, NodeFault, NodeType};
+pub use imap::{decode_imap, encode_imap};
 pub use inode::{decode_inode, encode_inode};
 pub use master::{decode_master, encode_master};
 pub use metaroot::{decode_metaroot, encode_metaroot};

@@ -6,7 +6,7 @@ ghost use Rattle.edge_base.specs.layout.Spelling.{metaroot_in, metaroot_fields, 
 ghost use Rattle.edge_base.specs.declared.node.Metaroot.{Metaroot};
 
 use crate::bits::are_clear;
-use crate::block::{block_size, root_bits};
+use crate::block::block_size;
 use crate::reading::{check_header, u32_at, u64_at};
 use crate::writing::{put_header, put_tail, put_u32, seal};
 use edge_base::{Geometry, Metaroot, NodeFault};
@@ -51,7 +51,7 @@ fn read_metaroot(g: &Geometry, b: &[u8]) -> Result<Metaroot, NodeFault>
     if u32_at(b, 28) != 0 {
         return Err(NodeFault::WrongField(28));
     }
-    if !are_clear(b, 32, root_bits(g)) {
+    if !are_clear(b, 32, g.root_bits()) {
         return Err(NodeFault::WrongField(32));
     }
     Ok(Metaroot {

@@ -1,8 +1,8 @@
 -- Where things lie on the image of a geometry.
-use Rattle.std.specs.Prelude.{◌≡◌, ℕ, ◌+◌, ◌-◌, ◌*◌, ◌/◌, ◌%◌, ◌<◌, ◌≤◌, Bool, true, ◌==◌, ◌||◌, not, nat_lt, if◌then◌else◌, Option, Some, None, IsTrue}
+use Rattle.std.specs.Prelude.{◌≡◌, ℕ, ◌+◌, ◌-◌, ◌*◌, ◌/◌, ◌%◌, ◌<◌, ◌≤◌, Bool, ◌==◌, ◌||◌, not, nat_lt, if◌then◌else◌, Option, Some, None, IsTrue}
 use Rattle.edge_base.specs.layout.Sizes.{is_block_size, fits_inline, node_bits, pairs_for, place_of}
 use Rattle.edge_base.specs.declared.geometry.BadGeometry.{BadGeometry}
-use Rattle.edge_base.specs.declared.geometry.BadGeometry.TheVariants.{BlockSize, Blocks, Inodes, NameMax, Pointers, Room, External}
+use Rattle.edge_base.specs.declared.geometry.BadGeometry.TheVariants.{BlockSize, Blocks, Inodes, NameMax, Pointers, Room}
 use Rattle.edge_base.specs.declared.geometry.Request.{Request}
 use Rattle.edge_base.specs.declared.way.Way.{Way}
 use Rattle.edge_base.specs.declared.way.Way.TheVariants.{Direct, Single, Double}
@@ -79,7 +79,6 @@ bad_geometry g =
     else if nat_lt g.name_max 12 || nat_lt 252 g.name_max || not (g.name_max % 4 == 0) then Some NameMax
     else if (g.direct == 0) || nat_lt (entries_of g) (g.direct + g.indirect) then Some Pointers
     else if nat_lt (allocable_of g) 3 then Some Room
-    else if not (is_inline_of g) then Some External
     else None
 
 -- A request within the limits.
@@ -98,4 +97,3 @@ pub record IsWithinLimits (g : Request) : Type 0 where
   pub some_direct : 1 ≤ g.direct
   pub pointers : g.direct + g.indirect ≤ entries_of g
   pub room : 3 ≤ allocable_of g
-  pub inline : is_inline_of g ≡ true

@@ -122,6 +122,14 @@ pub record SpellsImap (g : Request) (i sequence : ℕ) (bits b : List ℕ) : Typ
   pub bitmap : drop 16 b ≡ bits
   pub unused : (k : ℕ) → bits_of_node g i ≤ k → k < 8 * (length b - 16) → bit_in 16 b k ≡ false
 
+-- The sequence number of imap node i that a block spells, or the first field in rising order that breaks its rule.
+unfoldable pub imap_in : Request → ℕ → List ℕ → Result ℕ NodeFault
+imap_in g i b =
+    if not (signature_in b == imap_signature) then Err WrongSignature
+    else if not (number_at 4 4 b == check_word_of (drop 8 b)) then Err WrongWord
+    else if not (clear_from (bits_of_node g i) 16 b) then Err (WrongField 16)
+    else Ok (number_at 8 8 b)
+
 -- ---- inode
 
 abbrev pub number_of_kind : NodeType → ℕ

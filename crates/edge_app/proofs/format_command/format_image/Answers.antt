@@ -1,8 +1,8 @@
-use Rattle.std.proofs.Common.{rules, ℕ, ◌∙◌, inl, inr, ap, subst, sym}
+use Rattle.std.proofs.Common.{rules, ℕ, ◌∙◌, inl, inr, not, ap, subst, sym}
 use Rattle.edge_app.specs.declared.report.Report.{Report}
 use Rattle.edge_app.specs.Formats.{IsWritten}
 use Rattle.edge_app.specs.World.{world_with_source}
-use Rattle.edge_app.proofs.FormatsLaws.{made_after_fault, made_after_ok}
+use Rattle.edge_app.proofs.FormatsLaws.{passed_ok, made_after_fault, made_after_ok}
 use Rattle.edge_app.proofs.format_command.format_image.Goals.{in-Ok, in-Err}
 use Rattle.edge_app.proofs.format_command.format_image.Goals as goal
 
@@ -40,14 +40,16 @@ returns-then-is_err-clause-formats g c = λ source. record {
 -- ---- the disk was written whole
 
 pub returns-clause-causes : goal.returns-clause-causes
-returns-clause-causes g c = λ source. record {
-  source = search rules;
-  sink = elim c.match-write_all.branch [ in-Ok w ↦ search rules | in-Err w ↦ search rules ];
-  device = search rules;
-  reason = search rules;
-  damage = search rules;
-  origin = search rules;
-}
+returns-clause-causes g c = λ source.
+    let still = passed_ok c.format.result _ (c.is_err.ensures.negation ∙ ap not c.if-is_err.false) c.format.ensures.cause.passed in
+    record {
+      source = elim c.match-write_all.branch [ in-Ok w ↦ search rules | in-Err w ↦ search rules ];
+      sink = elim c.match-write_all.branch [ in-Ok w ↦ search rules | in-Err w ↦ search rules ];
+      device = elim c.match-write_all.branch [ in-Ok w ↦ record { rose = search rules; still = λ other. still } | in-Err w ↦ record { rose = search rules; still = λ other. still } ];
+      reason = search rules;
+      damage = search rules;
+      origin = search rules;
+    }
 
 pub returns-clause-formats : goal.returns-clause-formats
 returns-clause-formats g c = λ source. record {

@@ -1,4 +1,4 @@
-use Rattle.std.proofs.Common.{Some, None, sym, ap, ◌∙◌, subst, arith}
+use Rattle.std.proofs.Common.{sym, ap, ◌∙◌, subst, arith}
 use Rattle.std.specs.Prelude.{IsTrue}
 use Rattle.edge_base.specs.layout.Spelling.{master_in}
 use Rattle.edge_disk.specs.State.{disk_of, shown_by}
@@ -26,28 +26,18 @@ returns-then-blocks-request-clause-told g c = λ shows.
     (sym (ap (λ r. r.block_size) c.request-request.ensures.same) ∙ c.if-request-block_size.false ∙ c.block_size.ensures ∙ ap (λ o. o.block_size) c.in_ok-read.ensures.origin)
     (omega (arith, c.blocks-3.ensures, ap (λ o. o.blocks) c.in_ok-read.ensures.origin, ap (λ r. r.blocks) c.request-request.ensures.same))
 
-pub returns-in-Some-clause-told : goal.returns-in-Some-clause-told
-returns-in-Some-clause-told g c = λ shows.
+pub returns-clause-told : goal.returns-clause-told
+returns-clause-told g c = λ shows.
     let image = shown_by (disk_of g.D.Disk c.args.disk.now) in
-    judged image c.in-Ok.master (Some c.in-Some.reason) _ c.request-request.ensures.limits.inline (omega arith)
-    (sym (ap master_in (c.in_ok-read.ensures.bytes shows)) ∙ sym c.in-Ok.ensures.exact)
-    (sym (ap (λ r. r.block_size) c.request-request.ensures.same) ∙ c.if-request-block_size.false ∙ c.block_size.ensures ∙ ap (λ o. o.block_size) c.in_ok-read.ensures.origin)
-    (omega (arith, c.blocks-3.ensures, ap (λ o. o.blocks) c.in_ok-read.ensures.origin, ap (λ r. r.blocks) c.request-request.ensures.same))
-    (judged-same c.in-Ok.master.geometry _ _ _ _ _ _
-    (c.in_ok-read-2.ensures.bytes (subst (λ o. IsTrue o.shows) (sym c.in_ok-read.ensures.origin) shows) ∙ ap (λ s. s 1) c.in_ok-read.ensures.shown)
-    (c.in_ok-read-3.ensures.bytes (subst (λ o. IsTrue o.shows) (sym (c.in_ok-read-2.ensures.origin ∙ c.in_ok-read.ensures.origin)) shows)
-    ∙ ap (λ s. s 2) (c.in_ok-read-2.ensures.shown ∙ c.in_ok-read.ensures.shown))
-    c.in-Some.ensures)
-
-pub returns-in-None-clause-told : goal.returns-in-None-clause-told
-returns-in-None-clause-told g c = λ shows.
-    let image = shown_by (disk_of g.D.Disk c.args.disk.now) in
-    judged image c.in-Ok.master None _ c.request-request.ensures.limits.inline (omega arith)
-    (sym (ap master_in (c.in_ok-read.ensures.bytes shows)) ∙ sym c.in-Ok.ensures.exact)
-    (sym (ap (λ r. r.block_size) c.request-request.ensures.same) ∙ c.if-request-block_size.false ∙ c.block_size.ensures ∙ ap (λ o. o.block_size) c.in_ok-read.ensures.origin)
-    (omega (arith, c.blocks-3.ensures, ap (λ o. o.blocks) c.in_ok-read.ensures.origin, ap (λ r. r.blocks) c.request-request.ensures.same))
-    (judged-same c.in-Ok.master.geometry _ _ _ _ _ _
-    (c.in_ok-read-2.ensures.bytes (subst (λ o. IsTrue o.shows) (sym c.in_ok-read.ensures.origin) shows) ∙ ap (λ s. s 1) c.in_ok-read.ensures.shown)
-    (c.in_ok-read-3.ensures.bytes (subst (λ o. IsTrue o.shows) (sym (c.in_ok-read-2.ensures.origin ∙ c.in_ok-read.ensures.origin)) shows)
-    ∙ ap (λ s. s 2) (c.in_ok-read-2.ensures.shown ∙ c.in_ok-read.ensures.shown))
-    c.in-None.ensures)
+    let first = c.in_ok-read.ensures in
+    let second = c.in_ok-read-2.ensures in
+    let third = c.in_ok-read-3.ensures in
+    let shows_second = subst (λ o. IsTrue o.shows) (sym first.origin) shows in
+    let shows_third = subst (λ o. IsTrue o.shows) (sym (second.origin ∙ first.origin)) shows in
+    let shows_then = subst (λ o. IsTrue o.shows) (sym (third.origin ∙ second.origin ∙ first.origin)) shows in
+    judged image c.in-Ok.master c.judge.result (omega arith)
+    (sym (ap master_in (first.bytes shows)) ∙ sym c.in-Ok.ensures.exact)
+    (sym (ap (λ r. r.block_size) c.request-request.ensures.same) ∙ c.if-request-block_size.false ∙ c.block_size.ensures ∙ ap (λ o. o.block_size) first.origin)
+    (omega (arith, c.blocks-3.ensures, ap (λ o. o.blocks) first.origin, ap (λ r. r.blocks) c.request-request.ensures.same))
+    (judged-same c.in-Ok.master.geometry _ _ _ _ _ _ c.judge.result (second.bytes shows_second ∙ ap (λ s. s 1) first.shown) (third.bytes shows_third ∙ ap (λ s. s 2) (second.shown ∙ first.shown))
+    (third.shown ∙ second.shown ∙ first.shown) (c.judge.ensures.told shows_then))

@@ -63,7 +63,7 @@ returns-clause-runs g c = λ clock.
     let same : report ≡ c.served.result = same_report c.served.result ended.commands ended.taken c.served.ensures.commands c.served.ensures.taken in
     subst (λ (r : Report). Runs start (world_with_clock g.S.Source g.K.Sink g.D.Disk clock c.serve-ended.new.src c.serve-ended.new.out c.into_disk.result) r) same
     (runs_served start (disk_of g.D.Disk volume.disk) (disk_of g.D.Disk c.into_disk.result) (source_of g.S.Source c.serve-ended.new.src) (sink_of g.K.Sink c.serve-ended.new.out) ended.how report
-    volume.kept.geometry volume.kept.metaroot.items c.in-Ok-mount.ensures.untouched
+    volume.kept.geometry volume.kept.root c.in-Ok-mount.ensures.untouched
     (subst (λ d. IsUntouched (disk_of g.D.Disk volume.disk) (disk_of g.D.Disk d)) (sym c.into_disk.ensures) c.serve-ended.ensures.same)
     c.in-Ok-mount.ensures.told (subst (λ (r : Report). EndsBy ended.how r) (sym same) c.served.ensures.how) c.served.ensures.points
     c.serve-ended.ensures.short c.serve-ended.ensures.room c.serve-ended.ensures.limit c.serve-ended.ensures.limit_bytes c.serve-ended.ensures.end c.serve-ended.ensures.damaged c.serve-ended.ensures.ran
