@@ -1,4 +1,4 @@
-ghost use Rattle.std.specs.Prelude.{◌≡◌, ◌+◌, ◌<◌, ◌≤◌, ◌^◌, ℕ, length, IsTrue, OnOk, IfOk, IfErr, MatchResult, Some, None};
+ghost use Rattle.std.specs.Prelude.{◌≡◌, ◌+◌, ◌<◌, ◌≤◌, length, IsTrue, OnOk, IfOk, IfErr, MatchResult, Some, None};
 ghost use Rattle.edge_base.specs.layout.Places.{table_start_of};
 ghost use Rattle.edge_base.specs.layout.Spelling.{metaroot_in};
 ghost use Rattle.edge_image.specs.Image.{live_among, is_used, is_free, free_blocks_of, free_inodes_of, reason_of};
