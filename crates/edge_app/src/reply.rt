@@ -1,4 +1,4 @@
-ghost use Rattle.std.specs.Prelude.{◌≡◌, IsTrue, Result, Ok, Err};
+ghost use Rattle.std.specs.Prelude.{◌≡◌, IsTrue, Result, Ok};
 ghost use Rattle.edge_app.specs.Script.{letter_of, stat_reply, bad_reply};
 ghost use Rattle.edge_app.specs.Turn.{AnswersTo};
 ghost use Rattle.edge_app.specs.Volume.{VolumeCount};

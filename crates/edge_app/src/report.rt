@@ -1,4 +1,4 @@
-ghost use Rattle.std.specs.Prelude.{◌≡◌, ◌≤◌, ◌++◌, length, drop, None, IsTrue};
+ghost use Rattle.std.specs.Prelude.{◌≡◌, ◌≤◌, ◌++◌, length, drop, None};
 ghost use Rattle.edge_app.specs.Report.{unserved_by, unmounted_by, EndsBy, number_of, fault_line_of};
 
 use crate::mount::MountFault;

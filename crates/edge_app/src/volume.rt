@@ -3,7 +3,6 @@ ghost use Rattle.std.specs.Result.{ForOk};
 ghost use Rattle.edge_base.specs.declared.damage.Damage.{Damage};
 ghost use Rattle.edge_base.specs.declared.node.Head.{Head};
 ghost use Rattle.edge_base.specs.layout.Spelling.{inode_in};
-ghost use Rattle.edge_base.specs.outside.Faults.{Rose};
 ghost use Rattle.edge_disk.specs.State.{disk_of, shown_by, IsUntouched};
 ghost use Rattle.edge_disk.proofs.StateLaws.{untouched, untouched-twice};
 ghost use Rattle.edge_image.specs.Image.{head_told, head_by, reason_of};

@@ -33,7 +33,7 @@ impl MemorySource {
 }
 
 impl Source for MemorySource {
-    ghost use Rattle.std.specs.Prelude.{◌≡◌, ◌+◌, ◌-◌, ◌^◌, ◌↔◌, min, true, take, drop, Contains, IsErr, IfOk, OnErr};
+    ghost use Rattle.std.specs.Prelude.{◌≡◌, ◌+◌, ◌-◌, ◌^◌, ◌↔◌, min, true, drop, Contains, IsErr, IfOk, OnErr};
     ghost use Rattle.edge_base.specs.outside.Faults.{HasCause};
     ghost use Rattle.edge_io.specs.MemorySource.{left_of, fails_of, calls_of, faults_of};
     ghost use Rattle.edge_io.specs.Streams.{Gives};

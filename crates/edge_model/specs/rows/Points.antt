@@ -3,7 +3,7 @@ use Rattle.std.specs.Prelude.{List, [], ◌∷◌, codes}
 use Rattle.edge_base.specs.declared.node.NodeType.TheVariants.{Directory}
 use Rattle.edge_base.specs.declared.refusal.Refusal.TheVariants.{BadDescriptor, Invalid}
 use Rattle.edge_model.specs.Asked as ask
-use Rattle.edge_model.specs.Asked.{done, number, bytes, end, entry}
+use Rattle.edge_model.specs.Asked.{done, number, end, entry}
 use Rattle.edge_model.specs.Tree.{only_root}
 use Rattle.edge_model.specs.rows.Row.{Row, bad, says, told, no, stated, left, small, r, wc, wt}
 

@@ -3,7 +3,7 @@ use Rattle.std.specs.Prelude.{List, [], ◌∷◌, codes}
 use Rattle.edge_base.specs.declared.node.NodeType.TheVariants.{File}
 use Rattle.edge_base.specs.declared.refusal.Refusal.TheVariants.{Exists, NoSpace}
 use Rattle.edge_model.specs.Asked as ask
-use Rattle.edge_model.specs.Asked.{done, number, bytes, end, entry}
+use Rattle.edge_model.specs.Asked.{done, number}
 use Rattle.edge_model.specs.Tree.{only_root}
 use Rattle.edge_model.specs.rows.Row.{Row, says, told, no, stated, left, small, blocks_22, blocks_23, blocks_24, blocks_3843, blocks_3844, blocks_100000, w, wc}
 

@@ -4,7 +4,6 @@ use Rattle.edge_words.specs.declared.order.Order.{Order}
 use Rattle.edge_words.specs.Orders.{Run, Format, Spells, wanted_by}
 use Rattle.edge_io.specs.States.{source_of, clock_of}
 use Rattle.edge_app.proofs.PromiseLaws.{does, run_has_status, format_has_status}
-use Rattle.edge_app.proofs.program.edge.Goals.{After-run_image, After-format_image}
 use Rattle.edge_app.proofs.program.edge.Goals as goal
 
 -- ---- words that spell nothing

@@ -1,12 +1,10 @@
 use Rattle.std.proofs.Common.{rules, ◌≡◌, ℕ, Some, inl, inr, sym, subst, arith, refl}
-use Rattle.edge_image.specs.Image.{reason_of}
-use Rattle.edge_disk.specs.State.{IsUntouched, disk_of, shown_by}
+use Rattle.edge_disk.specs.State.{IsUntouched, disk_of}
 use Rattle.edge_disk.proofs.StateLaws.{untouched}
 use Rattle.edge_app.specs.Report.{EndsBy}
 use Rattle.edge_app.specs.Causes.{HasCauses}
 use Rattle.edge_app.specs.Runs.{Runs}
 use Rattle.edge_app.specs.Turn.{RootCount}
-use Rattle.edge_app.specs.Mount.{MountCount, MountTold}
 use Rattle.edge_app.specs.World.{world_with_clock}
 use Rattle.edge_io.specs.States.{source_of, sink_of}
 use Rattle.edge_app.specs.declared.report.Report.{Report}
