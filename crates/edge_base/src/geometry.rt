@@ -59,7 +59,9 @@ impl Geometry {
     /// The geometry of a request, or the first limit that it breaks.
     #[tactic(auto, unfolding(crate::specs::layout::Places::bad_geometry))]
     pub fn checked(r: Request) -> Result<Geometry, BadGeometry>
-        ensures { MatchResult result (λ g. (bad_geometry r ≡ None) × (g ≡ r)) (λ e. bad_geometry r ≡ Some e) }
+        ensures { MatchResult result
+            (λ g. (bad_geometry r ≡ None) × (g ≡ r))
+            (λ e. bad_geometry r ≡ Some e) }
     {
         if r.block_size != 512
             && r.block_size != 1024
@@ -252,8 +254,10 @@ fn pairs_of_imap_nodes(block_size: u32, blocks: u32) -> u32
     requires size { IsTrue (is_block_size block_size) }
     requires few { blocks ≤ 4194304 }
     ensures count { result ≡ pairs_for block_size blocks }
-    ensures enough { fits_inline block_size blocks ≡ false → blocks - 3 - 2 * result ≤ result * node_bits block_size }
-    ensures least { fits_inline block_size blocks ≡ false → (k : ℕ) → blocks - 3 - 2 * k ≤ k * node_bits block_size → result ≤ k }
+    ensures enough { fits_inline block_size blocks ≡ false
+        → blocks - 3 - 2 * result ≤ result * node_bits block_size }
+    ensures least { fits_inline block_size blocks ≡ false → (k : ℕ)
+        → blocks - 3 - 2 * k ≤ k * node_bits block_size → result ≤ k }
 {
     let bits = blocks.saturating_sub(3);
     if bits <= 8 * (block_size - 32) {

@@ -48,7 +48,13 @@ pub fn fill_imap(g: &Geometry, node: u32, out: &mut [u8])
 {
     let mut bits = [0; MOST_NODE_BITS];
     bits[0] = u8::from(node == 0);
-    encode_imap(g, node, 1, &bits[..g.request().block_size as usize - 16], out);
+    encode_imap(
+        g,
+        node,
+        1,
+        &bits[..g.request().block_size as usize - 16],
+        out,
+    );
 }
 
 /// Writes the inode of an empty root directory over the whole of `out`.

@@ -18,7 +18,8 @@ const METAROOT: u32 = 0x4d45_5441;
 pub fn encode_metaroot(g: &Geometry, r: &Metaroot, bits: &[u8], out: &mut [u8])
     requires whole { length out.old ≡ g.now.block_size }
     requires bitmap { length bits.now + 32 ≡ g.now.block_size }
-    requires unused { (i : ℕ) → root_bits_of g.now ≤ i → i < 8 * length bits.now → bit_in 0 bits.now i ≡ false }
+    requires unused { (i : ℕ) → root_bits_of g.now ≤ i → i < 8 * length bits.now
+        → bit_in 0 bits.now i ≡ false }
     ensures { SpellsMetaroot g.now r.now bits.now out.new }
 {
     prove!(out.len() == block_size(g));
@@ -34,7 +35,8 @@ pub fn decode_metaroot(g: &Geometry, b: &[u8]) -> Result<Metaroot, NodeFault>
     requires { length b.now ≡ g.now.block_size }
     ensures exact { result ≡ metaroot_in g.now b.now }
     ensures spelled { IfOk result (λ r. SpellsMetaroot g.now r (drop 32 b.now) b.now) }
-    ensures only { (r : Metaroot) (bits : List ℕ) → SpellsMetaroot g.now r bits b.now → result ≡ Ok r }
+    ensures only { (r : Metaroot) (bits : List ℕ) → SpellsMetaroot g.now r bits b.now
+        → result ≡ Ok r }
 {
     prove!(b.len() == block_size(g));
     read_metaroot(g, b)

@@ -43,7 +43,8 @@ pub fn decode_pointer(g: &Geometry, double: bool, b: &[u8]) -> Result<u32, NodeF
     requires { length b.now ≡ g.now.block_size }
     ensures exact { result ≡ owner_told (pointer_in g.now double b.now) }
     ensures spelled { IfOk result (λ owner. SpellsPointer g.now double (number_at 8 8 b.now) owner (numbers_at 20 (pointers_of g.now) b.now) b.now) }
-    ensures only { (sequence owner : ℕ) (entries : List ℕ) → SpellsPointer g.now double sequence owner entries b.now → result ≡ Ok owner }
+    ensures only { (sequence owner : ℕ) (entries : List ℕ)
+        → SpellsPointer g.now double sequence owner entries b.now → result ≡ Ok owner }
 {
     prove!(b.len() == block_size(g));
     read_pointer(g, double, b)

@@ -14,6 +14,6 @@ loop-node-preserved g c =
     let inside : c.loop-node.node < imap_nodes_of c.args.g.now = omega (arith, c.loop-node-test.true, c.imap_nodes-node-end.ensures.count) in
     let wrote = c.in_ok-write_imap.ensures in (
       wrote_more c.args.g.now c.loop-node.node (disk_of g.D.Disk c.args.disk.now) (disk_of g.D.Disk c.loop-node.disk) (disk_of g.D.Disk c.write_imap.new.disk) inside c.loop-node.invariant.0
-      wrote.origin wrote.cause.passed wrote.kept wrote.shown,
+          wrote.origin wrote.cause.passed wrote.kept wrote.shown,
       c.write_imap.ensures.whole ∙ c.loop-node.invariant.1,
     )
