@@ -62,6 +62,15 @@ abbrev pub mask_after : ℕ → Asked → ℕ
 mask_after old (set_mask new) = if nat_lt event.greatest_mask new then old else new
 mask_after old command = old
 
+-- a mask is refused exactly above the greatest
+abbrev pub AnswersMask : Asked → Answer → Type 0
+AnswersMask (set_mask new) answer = answer ≡ (if nat_lt event.greatest_mask new then a.No no.Invalid else a.Done)
+AnswersMask command answer = Unit {0}
+
+-- the points of a session's end, by its mask
+abbrev pub closing_points : ℕ → ℕ
+closing_points events = if event.has_event events event.umount then 1 else 0
+
 abbrev pub with_open : (ℕ → Bool) → ℕ → Bool → ℕ → Bool
 with_open is_open h now k = if k == h then now else is_open k
 
@@ -94,8 +103,9 @@ IsInBuffer other = Unit {0}
 
 -- ---- commands that change nothing below
 
+-- an open that neither writes nor makes; without any flag it is refused
 abbrev pub only_reads : OpenFlags → Bool
-only_reads f = f.read && not (f.write || f.create || f.exclusive || f.truncate || f.append)
+only_reads f = not (f.write || f.create || f.exclusive || f.truncate || f.append)
 
 -- the commands that change no candidate on a clean object
 abbrev pub is_quiet : ℕ → Asked → Bool
