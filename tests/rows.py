@@ -9,8 +9,8 @@ import tempfile
 import zlib
 
 from rows_model import (
-    Disk, Fails, Fault, HostDisk, HostFolder, Row, Run, bad_geometry, escaped, inode, master, metaroot, number, order_of,
-    sealed, unescaped)
+    Disk, Fails, Fault, HostDisk, HostFolder, Row, Run, bad_geometry, escaped, imap_node,
+    imap_pairs, inode, master, metaroot, number, order_of, sealed, table, unescaped)
 
 
 class Unknown(Exception):
@@ -176,6 +176,13 @@ class Table:
             return f"  sequence {sequence}, {counts}{used}"
         return self.told_node(tell)
 
+    def do_imap(self, row, text, b, i):
+        def tell():
+            sequence, bits = imap_node(master(self.block(0))[0], int(i), self.block(int(b)))
+            used = "".join(f" {k}" for k, bit in enumerate(bits) if bit)
+            return f"  sequence {sequence}, {len(bits)} bits:{used}"
+        return self.told_node(tell)
+
     def do_inode(self, row, text, b):
         def tell():
             kind, size, links, parent = inode(self.block(int(b)))
@@ -221,9 +228,11 @@ class Table:
             yield f"  {limit}"
             return
         entries, inner = (size - 32) // 4, (size - 20) // 4
-        first = 3 + 2 * inodes
+        pairs, start = imap_pairs(size, blocks), table(size, blocks)
+        first = start + 2 * inodes
         most = direct + indirect * inner + (entries - direct - indirect) * inner**2
-        yield (f"  inline true, imap nodes 0, table 3, root (3, 4) to {first - 1}, {blocks - first} allocable from {first}, "
+        yield (f"  inline {str(pairs == 0).lower()}, imap nodes {pairs}, table {start}, root ({start}, {start + 1}) to {first - 1}, "
+               f"{blocks - first} allocable from {first}, "
                f"files of {most} blocks, {most * size} bytes")
         for index in indexes:
             if index >= most:

@@ -31,12 +31,24 @@ def bad_geometry(size, blocks, inodes, name, direct, indirect):
         return "NameMax"
     if direct < 1 or direct + indirect > (size - 32) // 4:
         return "Pointers"
-    pairs = 0
-    while pairs == 0 and blocks - 3 > 8 * (size - 32) or pairs and 8 * pairs * (size - 16) < blocks - 3 - 2 * pairs:
-        pairs += 1
-    if blocks - 3 - 2 * pairs - 2 * inodes < 3:
+    if blocks - table(size, blocks) - 2 * inodes < 3:
         return "Room"
-    return "External" if pairs else None
+    return None
+
+
+def imap_pairs(size, blocks):
+    """The pairs of imap nodes."""
+    if blocks - 3 <= 8 * (size - 32):
+        return 0
+    pairs = 1
+    while 8 * pairs * (size - 16) < blocks - 3 - 2 * pairs:
+        pairs += 1
+    return pairs
+
+
+def table(size, blocks):
+    """The first block of the inode table."""
+    return 3 + 2 * imap_pairs(size, blocks)
 
 
 def header(block, letters):
@@ -69,8 +81,20 @@ def metaroot(geometry, block):
     header(block, b"META")
     field(28, number(28, 4, block) == 0)
     bits = number(32, len(block) - 32, block)
-    field(32, bits >> (geometry[1] - 3) == 0)
+    size, blocks = geometry[:2]
+    field(32, bits >> (imap_pairs(size, blocks) or blocks - 3) == 0)
     return number(8, 8, block), number(16, 4, block), number(20, 4, block), number(24, 4, block), bits
+
+
+def imap_node(geometry, i, block):
+    """The sequence number of imap node i, and its bits, the lowest first."""
+    header(block, b"IMAP")
+    size, blocks = geometry[:2]
+    room = 8 * (size - 16)
+    count = max(0, min(room, blocks - table(size, blocks) - i * room))
+    bits = number(16, size - 16, block)
+    field(16, bits >> count == 0)
+    return number(8, 8, block), [bits >> k & 1 for k in range(count)]
 
 
 def inode(block):
@@ -243,11 +267,14 @@ def node(letters, fields, size):
 
 def format_disk(disk, g, moment):
     size, blocks, inodes = g[:3]
-    first = 3 + 2 * inodes
+    pairs, start = imap_pairs(size, blocks), table(size, blocks)
+    first = start + 2 * inodes
     disk.write(0, bytes(size))
     disk.flush()
-    disk.write(3, node(b"INOD", struct.pack("<QQHHI", 1, 0, 2, 1, 0), size))
-    disk.write(1, node(b"META", struct.pack("<QIIIII", 1, blocks - first, inodes - 1, first, 0, 1), size))
+    for i in range(pairs):
+        disk.write(3 + 2 * i, node(b"IMAP", struct.pack("<QB", 1, i == 0), size))
+    disk.write(start, node(b"INOD", struct.pack("<QQHHI", 1, 0, 2, 1, 0), size))
+    disk.write(1, node(b"META", struct.pack("<QIIIII", 1, blocks - first, inodes - 1, first, 0, pairs == 0), size))
     disk.write(2, bytes(size))
     disk.flush()
     log = size.bit_length() - 1
@@ -257,7 +284,7 @@ def format_disk(disk, g, moment):
 
 
 def mount(disk):
-    """The reason, or the geometry and the bits of the live metaroot."""
+    """The reason, or the geometry and which blocks are used, from the inode table on."""
     if len(disk.blocks) < 3:
         return 1, None, None
     try:
@@ -279,7 +306,13 @@ def mount(disk):
     live = max(roots, key=lambda root: root[0])
     if live[0] > 2**63:
         return 5, None, None
-    used = [live[4] >> i & 1 for i in range(g[1] - 3)]
+    pairs = imap_pairs(*g[:2])
+    used = [] if pairs else [live[4] >> i & 1 for i in range(g[1] - 3)]
+    for i in range(pairs):
+        try:
+            used += imap_node(g, i, disk.read(3 + 2 * i + (live[4] >> i & 1)))[1]
+        except Fault:
+            return 6, None, None
     free = used[2 * g[2]:].count(0)
     numbers = sum(not used[2 * i] and not used[2 * i + 1] for i in range(g[2]))
     if (free, numbers) != live[1:3]:
@@ -291,12 +324,13 @@ class Damaged(Exception):
     pass
 
 
-def stat_root(disk, used):
+def stat_root(disk, g, used):
+    first = table(*g[:2])
     if not used[0] and not used[1]:
-        raise Damaged(3, 6)
+        raise Damaged(first, 6)
     if used[0] and used[1]:
-        raise Damaged(3, 7)
-    place = 3 if used[0] else 4
+        raise Damaged(first, 7)
+    place = first if used[0] else first + 1
     try:
         kind, size, links, _ = inode(disk.read(place))
     except Fault as fault:
@@ -342,10 +376,10 @@ class Run:
         moment = self.moments[0]
         self.moments = self.moments[1:] or self.moments
         format_disk(self.disk, g, moment)
-        self.write(b"formatted %d\n" % (g[1] - 3 - 2 * g[2]))
+        self.write(b"formatted %d\n" % (g[1] - table(*g[:2]) - 2 * g[2]))
 
     def run(self):
-        reason, _, used = mount(self.disk)
+        reason, g, used = mount(self.disk)
         if reason:
             self.status, self.tail = 8, f" reason {reason}"
             return
@@ -363,7 +397,7 @@ class Run:
                 return
             self.taken += len(line + feed)
             try:
-                reply = stat_root(self.disk, used) if line == b"stat /" else b"bad\n"
+                reply = stat_root(self.disk, g, used) if line == b"stat /" else b"bad\n"
             except Damaged as damage:
                 self.status, self.tail = 6, " block %d kind %d" % damage.args
                 return

@@ -4,7 +4,7 @@ ghost use Rattle.edge_base.specs.layout.Sizes.{is_block_size};
 use crate::image::Image;
 use anyhow::{Result, bail, ensure};
 use edge_base::Geometry;
-use edge_nodes::{bit_of, bits_of, decode_inode, decode_master, decode_metaroot, entry_of};
+use edge_nodes::{bit_of, bits_of, decode_imap, decode_inode, decode_master, decode_metaroot, entry_of};
 
 /// Whether so many bytes make a block.
 pub fn is_block_size(length: usize) -> bool
@@ -69,8 +69,34 @@ fn push_metaroot(out: &mut String, g: &Geometry, block: &[u8]) -> Result<()>
                 "  sequence {}, free {blocks} blocks {inodes} inodes, next {}, {bitmap} bytes of bits:",
                 root.sequence, root.next
             )?;
-            for i in 0..g.request().blocks - 3 {
+            for i in 0..g.root_bits() {
                 if bit_of(block, 32, i) {
+                    write!(out, " {i}")?;
+                }
+            }
+            out.push('\n')?;
+        }
+        Err(fault) => writeln!(out, "  {fault:?}")?,
+    }
+    Ok(())
+}
+
+/// Appends what a block is as imap node `node`, or what is wrong with it.
+pub fn push_imap(out: &mut String, image: &Image, number: usize, node: u32) -> Result<()> {
+    let block = image.block(number)?;
+    let geometry = geometry_of(image)?;
+    if geometry.request().block_size as usize != block.len() {
+        bail!("another size of a block");
+    }
+    if node >= geometry.imap_nodes() {
+        bail!("no such node");
+    }
+    match decode_imap(&geometry, node, block) {
+        Ok(sequence) => {
+            let count = geometry.bits_of_node(node);
+            write!(out, "  sequence {sequence}, {count} bits:")?;
+            for i in 0..count {
+                if bit_of(block, 16, i) {
                     write!(out, " {i}")?;
                 }
             }

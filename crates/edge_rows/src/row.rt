@@ -5,11 +5,11 @@ use crate::host::{
     push_host_streams,
 };
 use crate::image::Image;
-use crate::nodes::{push_block, push_node};
+use crate::nodes::{push_block, push_imap, push_node};
 use crate::orders::{clock_of, order, push_answer, sure_order};
 use crate::places::{push_geometry, push_numbers, push_words};
 use crate::streams::{push_clock, push_folder, push_sink, push_source};
-use crate::text::{byte, moments, number, numbers, push_faults, unescaped, word};
+use crate::text::{byte, moments, number, number32, numbers, push_faults, unescaped, word};
 use anyhow::{Context, Result, ensure};
 use edge_word::check_word;
 use std::alloc::{AllocError, Global};
@@ -182,6 +182,7 @@ fn tell(
         }
         "cuts" => push_cuts(alloc, out, row, words, image)?,
         "show" => push_block(out, image.block(number(words, 0)?)?)?,
+        "imap" => push_imap(out, image, number(words, 0)?, number32(words, 1)?)?,
         "master" | "metaroot" | "inode" => push_node(out, image, verb, number(words, 0)?)?,
         "faults" => push_faults(out)?,
         _ => return Ok(false),
