@@ -2,6 +2,7 @@
 //! over a disk, a source, a sink and a clock in memory. `docs/TESTING.md` has the statements.
 #![tactic(auto)]
 
+mod bits;
 mod cuts;
 mod disks;
 mod host;

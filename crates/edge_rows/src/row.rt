@@ -1,3 +1,4 @@
+use crate::bits::push_bits;
 use crate::cuts::{push_cuts, shown};
 use crate::disks::{push_disk, push_sure_disk};
 use crate::host::{
@@ -204,6 +205,7 @@ fn tell_part(
         "geometry" => push_geometry(out, words)?,
         "numbers" => push_numbers(out)?,
         "check_word" => writeln!(out, "  {:08x}", check_word(&row.script))?,
+        "bits" => push_bits(alloc, out, words)?,
         "disk" => push_disk(alloc, out, row, image, words)?,
         "sure_disk" => push_sure_disk(alloc, out, image, words)?,
         "source" => push_source(alloc, out, row, words)?,
