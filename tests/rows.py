@@ -200,6 +200,18 @@ class Table:
     def do_check_word(self, row, text):
         yield f"  {zlib.crc32(row.script):08x}"
 
+    def do_bits(self, row, text, call, length, clear, times):
+        length, clear, turn = int(length), int(clear), int(times) - 1
+        bits = bytearray(b"\xff" * -(-length // 8))
+        if clear < length:
+            bits[clear // 8] ^= 1 << clear % 8
+        least = f"Some({clear})" if turn % 64 <= clear < length else "None"
+        counted = max(0, length - turn % 64)
+        zeros = int(clear < counted)
+        bits[:1] = bytes([turn % 256])[:len(bits)]
+        yield "  " + {"first_zero_from": least, "free_in": least, "count": str(counted - zeros), "counts_in": str(zeros),
+                      "check_word": f"{zlib.crc32(bits):08x}"}[call]
+
     def do_words(self, row, text, *words):
         order = order_of(words)
         if order is None:
