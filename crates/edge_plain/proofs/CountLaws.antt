@@ -107,8 +107,31 @@ module _ (g : Request) (c v w : View) (now after numbers first_block first_numbe
         numbers_below = below_kept same;
       }
 
+  -- a block that is dropped and that the last point uses is not free afterwards
+  held_below : (old : ℕ) (lowest from : ℕ) → ((k : ℕ) → first_allocable_of g ≤ k → k < old → is_free c v k ≡ false) → lowest ≡ cond (is_used c from) old (min old from)
+      → ((k : ℕ) → k < old → k ≢ from → is_used w k ≡ is_used v k) → (k : ℕ) → first_allocable_of g ≤ k → k < lowest → is_free c w k ≡ false
+  held_below old lowest from none is same k low high = by_use (is_used c from) refl
+    where
+      by_use : (t : Bool) → is_used c from ≡ t → is_free c w k ≡ false
+      by_use true held =
+          let at : lowest ≡ old = is ∙ ap (λ t. cond t old (min old from)) held in
+          elim (cases_eq k from) [
+            | inl here ↦ ap (λ t. not t && not (is_used w k)) (ap (is_used c) here ∙ held)
+            | inr away ↦ let below : k < old = omega arith in free_alike c v w k (same k below away) ∙ none k low below
+          ]
+      by_use false free =
+          let at : lowest ≡ min old from = is ∙ ap (λ t. cond t old (min old from)) free in
+          let below : k < old = omega arith in
+          let away : k ≢ from = omega arith in
+          free_alike c v w k (same k below away) ∙ none k low below
+
+  -- the lesser of two blocks, or the first of them, is no lesser than what neither is lesser than
+  lesser_from : (t : Bool) (low old from lowest : ℕ) → low ≤ old → low ≤ from → lowest ≡ cond t old (min old from) → low ≤ lowest
+  lesser_from true low old from lowest a b is = let at : lowest ≡ old = is in omega arith
+  lesser_from false low old from lowest a b is = let at : lowest ≡ min old from = is in omega arith
+
   module _ (form : Form) (from b lowest : ℕ) (used : is_used v from ≡ true) (fits : is_allocable g from ≡ true) (t : Copied g c v w form from b)
-      (least : (k : ℕ) → first_allocable_of g ≤ k → k < b → is_free c v k ≡ false) (is : lowest ≡ min b from) where
+      (least : (k : ℕ) → first_allocable_of g ≤ k → k < b → is_free c v k ≡ false) (is : lowest ≡ cond (is_used c from) b (min b from)) where
     copied : (left : ℕ) → left ≡ free_now g c w → IsCounted g c w left after numbers lowest first_number
     copied left left_is =
         let same : w.inodes ≡ v.inodes = ap (λ (u : View). u.inodes) t.working in
@@ -118,11 +141,10 @@ module _ (g : Request) (c v w : View) (now after numbers first_block first_numbe
           now_is = left_is;
           after_is = counted.after_is ∙ sym (copied_after g c v w form from b used t fits);
           numbers_is = counted.numbers_is ∙ sym (free_inodes-same g v w same);
-          block_from = omega arith;
-          blocks_below = λ k low high.
+          block_from = lesser_from (is_used c from) (first_allocable_of g) b from lowest low_b low_from is;
+          blocks_below = held_below b lowest from least is (λ k below away.
               let far : k ≢ b = omega arith in
-              let away : k ≢ from = omega arith in
-              free_alike c v w k (ap is_some (ap (λ (u : View). u.blocks k) t.working ∙ with_block_apart (with_block v b (w.blocks b)) from None k away ∙ with_block_apart v b (w.blocks b) k far)) ∙ least k low (omega arith);
+              ap is_some (ap (λ (u : View). u.blocks k) t.working ∙ with_block_apart (with_block v b (w.blocks b)) from None k away ∙ with_block_apart v b (w.blocks b) k far));
           number_from = counted.number_from;
           numbers_below = below_kept same;
         }
@@ -152,7 +174,8 @@ module _ (g : Request) (c v w : View) (now after numbers first_block first_numbe
         by_use true old = let e : one ≡ 1 = is_one ∙ ap flag old in omega (arith, counted.now_is)
         by_use false old = let e : one ≡ 0 = is_one ∙ ap flag old in omega arith
 
-  module _ (b lowest : ℕ) (used : is_used v b ≡ true) (fits : is_allocable g b ≡ true) (t : BlockDropped v w b) (is : lowest ≡ min first_block b) where
+  module _ (b lowest : ℕ) (used : is_used v b ≡ true) (fits : is_allocable g b ≡ true) (t : BlockDropped v w b)
+      (is : lowest ≡ cond (is_used c b) first_block (min first_block b)) where
     dropped : (left : ℕ) → left ≡ free_now g c w → IsCounted g c w left (after + 1) numbers lowest first_number
     dropped left left_is =
         let same : w.inodes ≡ v.inodes = ap (λ (u : View). u.inodes) t in
@@ -162,10 +185,8 @@ module _ (g : Request) (c v w : View) (now after numbers first_block first_numbe
           now_is = left_is;
           after_is = omega (arith, counted.after_is, more);
           numbers_is = counted.numbers_is ∙ sym (free_inodes-same g v w same);
-          block_from = omega (arith, counted.block_from);
-          blocks_below = λ k low high.
-              let far : k ≢ b = omega arith in
-              free_alike c v w k (ap is_some (ap (λ (u : View). u.blocks k) t ∙ with_block_apart v b None k far)) ∙ counted.blocks_below k low (omega arith);
+          block_from = lesser_from (is_used c b) (first_allocable_of g) first_block b lowest counted.block_from low_b is;
+          blocks_below = held_below first_block lowest b counted.blocks_below is (λ k below away. ap is_some (ap (λ (u : View). u.blocks k) t ∙ with_block_apart v b None k away));
           number_from = counted.number_from;
           numbers_below = below_kept same;
         }

@@ -1,6 +1,7 @@
-ghost use Rattle.std.specs.Prelude.{◌≡◌, true, None};
+ghost use Rattle.std.specs.Prelude.{◌≡◌, true, None, min, if◌then◌else◌};
 ghost use Rattle.edge_plain.specs.Counts.{IsCounted};
 ghost use Rattle.edge_plain.specs.KeptView.{view_of};
+ghost use Rattle.edge_store.specs.View.{is_allocable, is_used};
 
 use crate::plain_view::PlainView;
 use edge_base::{Damage, Form, Geometry, Head, NodeType};
@@ -34,13 +35,26 @@ pub struct PlainStore {
         blocks_now blocks_after numbers first_block first_number },
 }
 
+// A block below which none is free once the working view has dropped one, where none was below
+// `first`. A block that the last point uses is not free then.
+fn least_after(committed: &PlainView, first: u32, dropped: u32) -> u32
+    requires { is_allocable committed.now.geometry dropped ≡ true }
+    ensures { result ≡ (if is_used (view_of committed.now) dropped then first
+        else min first dropped) }
+{
+    if committed.is_used(dropped) {
+        return first;
+    }
+    first.min(dropped)
+}
+
 impl PlainStore {
     ghost use Rattle.std.specs.Prelude.{◌≤◌, ◌<◌, ℕ, false, Some, IfOk};
     ghost use Rattle.edge_base.specs.layout.Places.{first_allocable_of};
     ghost use Rattle.edge_plain.specs.Plain.{state_of, origin_of, view_of_root};
     ghost use Rattle.edge_store.specs.Effects.{IsFresh};
     ghost use Rattle.edge_store.specs.State.{IsMade};
-    ghost use Rattle.edge_store.specs.View.{is_allocable, is_free, free_now};
+    ghost use Rattle.edge_store.specs.View.{is_free, free_now};
 
     /// A store of the empty tree: its root is a directory without a block.
     pub fn new(alloc: Global, g: Geometry) -> Result<PlainStore, AllocError>
@@ -237,7 +251,7 @@ impl Store for PlainStore {
         self.working.copy_block(s.block, b);
         self.working.drop_block(s.block);
         self.blocks_now -= u32::from(self.committed.is_used(s.block));
-        self.first_block = b.min(s.block);
+        self.first_block = least_after(&self.committed, b, s.block);
         Ok(b)
     }
 
@@ -248,7 +262,7 @@ impl Store for PlainStore {
         self.working.drop_block(s.block);
         self.blocks_now += u32::from(!self.committed.is_used(s.block));
         self.blocks_after += 1;
-        self.first_block = self.first_block.min(s.block);
+        self.first_block = least_after(&self.committed, self.first_block, s.block);
         Ok(())
     }
 

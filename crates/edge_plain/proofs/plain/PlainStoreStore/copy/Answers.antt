@@ -39,7 +39,7 @@ invariant_of-self-clause-counted c =
     let copied : Copied g c0 v w c.args.s.form from b = copied_of g c0 v w c.args.s.form from b c.least_free-b.ensures.fresh
     (apart_of v c.args.s.form c.args.s.owner from b met c.least_free-b.ensures.fresh.unused) (c.drop_block.ensures.view ∙ ap (λ u. with_block u from None) c.copy_block.ensures.view) in
     moved g c.drop_block.new.self.geometry c0 v v _ _ _ _ _ (c.drop_block.ensures.geometry ∙ c.copy_block.ensures.geometry) s.counted c0 w _ _ _ _ _
-    (counted_copied g c0 v w _ _ _ _ _ s.counted c.args.s.form from b c.min-self.result used c.requires.block copied c.least_free-b.ensures.least c.min-self.ensures c.from.result
+    (counted_copied g c0 v w _ _ _ _ _ s.counted c.args.s.form from b c.least_after-self.result used c.requires.block copied c.least_free-b.ensures.least c.least_after-self.ensures c.from.result
     (c.from.ensures ∙ as_number _ _ c.is_used.ensures))
 
 pub returns-clause-copied : goal.returns-clause-copied

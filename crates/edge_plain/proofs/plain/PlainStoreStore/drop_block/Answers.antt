@@ -1,4 +1,4 @@
-use Rattle.std.proofs.Common.{◌≡◌, ◌∙◌, not, true, min, refl, sym, ap, arith, ℕ, false}
+use Rattle.std.proofs.Common.{◌≡◌, ◌∙◌, not, true, refl, sym, ap, arith, ℕ, false}
 use Rattle.edge_base.specs.declared.geometry.Request.{Request}
 use Rattle.edge_base.specs.layout.Places.{inode_place_of}
 use Rattle.edge_plain.specs.KeptView.{view_of}
@@ -18,7 +18,7 @@ overflow_add-self c =
     let v = view_of s.working in
     let b = c.args.s.block in
     let used : is_used v b ≡ true = used_of c.args.s.form (v.blocks b) c.args.s.owner (spot_of v c.args.s.form c.args.s.owner b (sym c.damage.ensures ∙ c.in_default.is)) in
-    let k = counted_dropped g (view_of s.committed) v (view_of c.drop_block.new.self) _ _ _ _ _ s.counted b (min s.first_block b) used c.requires.block c.drop_block.ensures.view refl c.from.result
+    let k = counted_dropped g (view_of s.committed) v (view_of c.drop_block.new.self) _ _ _ _ _ s.counted b _ used c.requires.block c.drop_block.ensures.view refl c.from.result
     (c.from.ensures ∙ as_number _ _ (ap not c.is_used.ensures)) in
     omega (arith, s.working.limits.blocks, k.now_is, free_now-few g (view_of s.committed) (view_of c.drop_block.new.self))
 
@@ -29,7 +29,7 @@ overflow_add-self-2 c =
     let v = view_of s.working in
     let b = c.args.s.block in
     let used : is_used v b ≡ true = used_of c.args.s.form (v.blocks b) c.args.s.owner (spot_of v c.args.s.form c.args.s.owner b (sym c.damage.ensures ∙ c.in_default.is)) in
-    let k = counted_dropped g (view_of s.committed) v (view_of c.drop_block.new.self) _ _ _ _ _ s.counted b (min s.first_block b) used c.requires.block c.drop_block.ensures.view refl c.from.result
+    let k = counted_dropped g (view_of s.committed) v (view_of c.drop_block.new.self) _ _ _ _ _ s.counted b _ used c.requires.block c.drop_block.ensures.view refl c.from.result
     (c.from.ensures ∙ as_number _ _ (ap not c.is_used.ensures)) in
     omega (arith, s.working.limits.blocks, k.after_is, free_after-few g (view_of c.drop_block.new.self))
 
@@ -43,7 +43,7 @@ invariant_of-self-clause-counted c =
     let b = c.args.s.block in
     let used : is_used v b ≡ true = used_of c.args.s.form (v.blocks b) c.args.s.owner (spot_of v c.args.s.form c.args.s.owner b (sym c.damage.ensures ∙ c.in_default.is)) in
     moved g c.drop_block.new.self.geometry c0 v v _ _ _ _ _ c.drop_block.ensures.geometry s.counted c0 w _ _ _ _ _
-    (counted_dropped g c0 v w _ _ _ _ _ s.counted b c.min-self.result used c.requires.block c.drop_block.ensures.view c.min-self.ensures c.from.result (c.from.ensures ∙ as_number _ _ (ap not c.is_used.ensures)))
+    (counted_dropped g c0 v w _ _ _ _ _ s.counted b c.least_after-self.result used c.requires.block c.drop_block.ensures.view c.least_after-self.ensures c.from.result (c.from.ensures ∙ as_number _ _ (ap not c.is_used.ensures)))
 
 pub returns-clause-places : goal.returns-clause-places
 returns-clause-places c = let at : Request → ℕ → ℕ = λ g n. inode_place_of g n false in ap at (c.drop_block.ensures.geometry)
