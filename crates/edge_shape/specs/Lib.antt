@@ -1,0 +1,9 @@
+pub mod Shape
+pub mod Gone
+pub mod Trees
+pub mod Cutting
+pub mod Trimmed
+pub mod Moved
+pub mod Where
+pub mod Steps
+pub mod Cut
