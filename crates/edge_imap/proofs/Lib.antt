@@ -1,0 +1,6 @@
+pub mod CallLaws
+pub mod BitLaws
+pub mod SearchLaws
+pub mod CountLaws
+pub mod TieLaws
+pub mod LoadLaws

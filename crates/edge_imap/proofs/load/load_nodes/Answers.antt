@@ -1,0 +1,68 @@
+use Rattle.std.proofs.Common.{◌≡◌, ℕ, ◌+◌, ◌-◌, ◌*◌, ◌≤◌, inl, inr, refl, sym, ap, subst, ◌∙◌, arith}
+use Rattle.std.proofs.lemmas.Bool.{cases_eq}
+use Rattle.edge_base.specs.layout.Bitmap.{bit_under, live_place}
+use Rattle.edge_base.specs.layout.Places.{imap_nodes_of}
+use Rattle.edge_base.specs.layout.Sizes.{node_bits}
+use Rattle.edge_cache.specs.Calls.{content_in}
+use Rattle.edge_disk.specs.Disk.{Origin}
+use Rattle.edge_imap.specs.Bitmaps.{IsFit, IsNode, bits_of}
+use Rattle.edge_imap.proofs.CallLaws.{reads_same, reads_after, shows_on}
+use Rattle.edge_imap.proofs.LoadLaws.{tells_after, tells_passed, count_before, count_before_few, count_first, count_next, count_last}
+use Rattle.edge_imap.proofs.load.load_nodes.Goals as goal
+
+pub loop-node-init : goal.loop-node-init
+loop-node-init g c = record {
+  reads = reads_same g.D.Disk c.args.cache.now;
+  passed = refl;
+  nodes = λ tells j low. absurd (omega (arith, low));
+  count = λ tells. sym (count_first c.args.g.now (bit_under c.args.g.now c.args.roots.now (content_in g.D.Disk c.args.cache.now)));
+}
+
+pub load_node-requires-clause-fits : goal.load_node-requires-clause-fits
+load_node-requires-clause-fits g c = subst (λ (o : Origin). IsFit c.args.g.now o) (sym c.loop-node.invariant.reads.origin) c.requires.fits
+
+pub returns-in_err-load_node-clause-reads : goal.returns-in_err-load_node-clause-reads
+returns-in_err-load_node-clause-reads g c = reads_after g.D.Disk _ _ _ c.loop-node.invariant.reads c.load_node.ensures.reads
+
+pub returns-in_err-load_node-clause-cause : goal.returns-in_err-load_node-clause-cause
+returns-in_err-load_node-clause-cause g c =
+    tells_after g.D.Disk c.loop-node.node c.args.g.now c.args.roots.now c.args.cache.now c.loop-node.cache c.load_node.new.cache c.load_node.result _ c.in_err-load_node.field-0.0 (omega (arith, c.loop-node-test.true, c.imap_nodes-node-end.ensures.count))
+    c.loop-node.invariant.reads c.loop-node.invariant.passed c.loop-node.invariant.nodes c.load_node.ensures.cause c.in_err-load_node.was c.from_residual.ensures
+
+pub loop-node-preserved : goal.loop-node-preserved
+loop-node-preserved g c =
+    let d = g.D.Disk in
+    let geometry = c.args.g.now in
+    let was = c.loop-node.invariant in
+    let node = c.loop-node.node in
+    let old = content_in d c.args.cache.now in
+    record {
+      reads = reads_after d _ _ _ was.reads c.load_node.ensures.reads;
+      passed = c.in_ok-load_node.ensures.cause.passed ∙ was.passed;
+      nodes = λ tells j low. elim (cases_eq j node) [
+        | inl e ↦
+            let read = c.in_ok-load_node.ensures.bytes (shows_on d c.args.cache.now c.loop-node.cache was.reads.origin tells) ∙ was.reads.contents tells (live_place geometry c.args.roots.now node) in
+            subst (λ (i : ℕ). IsNode geometry i (old (live_place geometry c.args.roots.now i))) (sym e) (subst (IsNode geometry node) read c.in_ok-load_node.ensures.node)
+        | inr far ↦ was.nodes tells j (omega (arith, low, far))
+      ];
+      count = λ tells.
+          let read = c.in_ok-load_node.ensures.bytes (shows_on d c.args.cache.now c.loop-node.cache was.reads.origin tells) ∙ was.reads.contents tells (live_place geometry c.args.roots.now node) in
+          let list = bit_under geometry c.args.roots.now old in
+          let next = count_next geometry c.args.roots.now old node c.load_node.new.block c.requires.external read in
+          let few = count_before_few geometry list (node + 1) in
+          c.saturating_add-free.ensures ∙ omega (arith, was.count tells, next, few, c.count_node.ensures, c.request-within_limits.ensures.limits.blocks);
+    }
+
+pub returns-clause-nodes : goal.returns-clause-nodes
+returns-clause-nodes g c = λ tells j low. c.loop-node.invariant.nodes tells j (omega (arith, low, c.loop-node-test.false, c.imap_nodes-node-end.ensures.count))
+
+pub returns-clause-count : goal.returns-clause-count
+returns-clause-count g c = λ tells.
+    let geometry = c.args.g.now in
+    let end : c.loop-node.node ≡ imap_nodes_of geometry = omega (arith, c.loop-node-test.false, c.loop-node.auto.node-end, c.imap_nodes-node-end.ensures.count) in
+    let list = bit_under geometry c.args.roots.now (content_in g.D.Disk c.args.cache.now) in
+    let all : bits_of geometry ≤ imap_nodes_of geometry * node_bits geometry.block_size = subst (λ (k : ℕ). geometry.blocks - (3 + 2 * imap_nodes_of geometry) ≤ k * node_bits geometry.block_size) c.imap_nodes-node-end.ensures.count (omega (arith, c.imap_nodes-node-end.ensures.enough c.requires.external, c.imap_nodes-node-end.ensures.count)) in
+    c.loop-node.invariant.count tells ∙ ap (count_before geometry list) end ∙ count_last geometry list (imap_nodes_of geometry) all c.request-within_limits.ensures.limits.room
+
+pub returns-clause-cause : goal.returns-clause-cause
+returns-clause-cause g c = tells_passed g.D.Disk c.args.g.now c.args.roots.now _ _ _ c.loop-node.invariant.passed

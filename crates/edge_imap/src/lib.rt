@@ -1,0 +1,17 @@
+//! The bitmap of used blocks, of the last point and working: in the metaroot, or in pairs of imap
+//! nodes that are read and changed through a cache.
+#![tactic(auto)]
+
+mod change;
+mod fault;
+mod imap;
+mod laws;
+mod load;
+mod node;
+mod search;
+mod state;
+
+pub use edge_alloc::Counts;
+pub use fault::{BlockState, ImapFault, LoadFault};
+pub use imap::Imap;
+pub use laws::{a_clean_cache_shows_the_nodes, others_keep_the_tie, the_spare_place_is_not_live};

@@ -1,0 +1,133 @@
+//! Reading the live nodes: each has to spell its node, and its free blocks are counted.
+ghost use Rattle.std.specs.Prelude.{◌≡◌, ◌<◌, ◌≤◌, ◌+◌, ◌-◌, ◌*◌, ◌&&◌, ℕ, not, true, false, count_by, min, max, length, Ok, Err, OnOk, IfOk, IsTrue, is_ok};
+ghost use Rattle.std.specs.List.{range_with_len};
+ghost use Rattle.edge_base.specs.layout.Bitmap.{live_place, bit_under};
+ghost use Rattle.edge_base.specs.layout.Bytes.{bit_in};
+ghost use Rattle.edge_base.specs.layout.Places.{is_inline_of, imap_nodes_of};
+ghost use Rattle.edge_base.specs.layout.Sizes.{node_bits};
+ghost use Rattle.edge_base.specs.layout.Spelling.{imap_in};
+ghost use Rattle.edge_cache.specs.Calls.{content_in, HasWholeBlocks};
+ghost use Rattle.edge_imap.specs.Bitmaps.{IsRootBits, IsFit, IsNode, HasNodes, count_clear, count_in_node};
+ghost use Rattle.edge_imap.specs.Reading.{OnlyReads, TellsLoad, TellsNode};
+
+use crate::fault::LoadFault;
+use crate::node::{BITS, live_block};
+use edge_alloc::{Window, counts_in};
+use edge_base::Geometry;
+use edge_cache::Cache;
+use edge_disk::Disk;
+use edge_nodes::{bits_of, decode_imap};
+
+// Reads the live node of a pair, and answers Node where it spells none.
+fn load_node<D: Disk>(
+    g: &Geometry,
+    roots: &[u8],
+    cache: &mut Cache<D>,
+    block: &mut [u8],
+    node: u32,
+) -> Result<(), LoadFault>
+    requires roots { IsRootBits g.now roots.now }
+    requires fits { IsFit g.now (D.origin cache.old.disk) }
+    requires block { length block.old ≡ g.now.block_size }
+    requires node { node < imap_nodes_of g.now }
+    ensures bytes { IsTrue (D.origin cache.old.disk).shows → OnOk result
+        (block.new ≡ content_in D.Disk cache.old (live_place g.now roots.now node)) }
+    ensures node { OnOk result (IsNode g.now node block.new) }
+    ensures reads { OnlyReads D.Disk cache.old cache.new }
+    ensures cause { TellsNode D.Disk node
+        (content_in D.Disk cache.old (live_place g.now roots.now node)) g.now
+        cache.old cache.new result }
+{
+    let place = live_block(g, roots, node);
+    cache.read(place, 0, block)?;
+    if decode_imap(g, node, block).is_err() {
+        return Err(LoadFault::Node(node));
+    }
+    Ok(())
+}
+
+// The clear bits of a node, of those that stand for allocable blocks.
+fn count_node(g: &Geometry, block: &[u8], node: u32) -> u32
+    requires block { length block.now ≡ g.now.block_size }
+    requires node { node < imap_nodes_of g.now }
+    ensures { result ≡ count_in_node g.now node block.now }
+{
+    let first = 2 * g.request().inodes;
+    let per_node = g.node_bits();
+    prove!(node < g.imap_nodes());
+    let start = node * per_node;
+    let low = start.max(first);
+    let end = start + g.bits_of_node(node);
+    if end <= low {
+        return 0;
+    }
+    let w = Window {
+        first: low - start,
+        len: end - low,
+    };
+    let bits = bits_of(block, BITS);
+    counts_in(bits, bits, w).free
+}
+
+// Reads all live nodes, and counts the free allocable blocks.
+fn load_nodes<D: Disk>(
+    g: &Geometry,
+    roots: &[u8],
+    cache: &mut Cache<D>,
+    block: &mut [u8],
+) -> Result<u32, LoadFault>
+    requires external { is_inline_of g.now ≡ false }
+    requires roots { IsRootBits g.now roots.now }
+    requires fits { IsFit g.now (D.origin cache.old.disk) }
+    requires block { length block.old ≡ g.now.block_size }
+    ensures nodes { IsTrue (D.origin cache.old.disk).shows → OnOk result
+        (HasNodes g.now roots.now (content_in D.Disk cache.old)) }
+    ensures count { IsTrue (D.origin cache.old.disk).shows → IfOk result
+        (λ n. n ≡ count_clear g.now (bit_under g.now roots.now (content_in D.Disk cache.old))) }
+    ensures reads { OnlyReads D.Disk cache.old cache.new }
+    ensures cause { TellsLoad D.Disk g.now roots.now cache.old cache.new result }
+{
+    let _within_limits = g.request();
+    let mut free = 0u32;
+    for node in 0..g.imap_nodes() {
+        load_node(g, roots, cache, block, node)?;
+        free = free.saturating_add(count_node(g, block, node));
+    }
+    Ok(free)
+}
+
+// The clear bits of a metaroot's bitmap, of those that stand for allocable blocks.
+fn count_roots(g: &Geometry, roots: &[u8]) -> u32
+    requires inline { is_inline_of g.now ≡ true }
+    requires roots { IsRootBits g.now roots.now }
+    ensures { result ≡ count_clear g.now (bit_in 0 roots.now) }
+{
+    let w = Window {
+        first: 2 * g.request().inodes,
+        len: g.allocable(),
+    };
+    counts_in(roots, roots, w).free
+}
+
+// Reads what lies below the bits of a root, and counts the free allocable blocks.
+pub(crate) fn load_roots<D: Disk>(
+    g: &Geometry,
+    roots: &[u8],
+    cache: &mut Cache<D>,
+    block: &mut [u8],
+) -> Result<u32, LoadFault>
+    requires roots { IsRootBits g.now roots.now }
+    requires fits { IsFit g.now (D.origin cache.old.disk) }
+    requires block { length block.old ≡ g.now.block_size }
+    ensures nodes { IsTrue (D.origin cache.old.disk).shows → OnOk result
+        (HasNodes g.now roots.now (content_in D.Disk cache.old)) }
+    ensures count { IsTrue (D.origin cache.old.disk).shows → IfOk result
+        (λ n. n ≡ count_clear g.now (bit_under g.now roots.now (content_in D.Disk cache.old))) }
+    ensures reads { OnlyReads D.Disk cache.old cache.new }
+    ensures cause { TellsLoad D.Disk g.now roots.now cache.old cache.new result }
+{
+    if !g.is_inline() {
+        return load_nodes(g, roots, cache, block);
+    }
+    Ok(count_roots(g, roots))
+}
