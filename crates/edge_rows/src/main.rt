@@ -11,6 +11,7 @@ mod orders;
 mod pieces;
 mod places;
 mod row;
+mod script;
 mod streams;
 mod text;
 
