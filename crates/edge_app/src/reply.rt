@@ -19,11 +19,7 @@ pub type Reply = ArrayString<64>;
 
 /// The reply to a line: `stat` of the root's path tells the head of the root directory, and any
 /// other line is bad. The line is read in `scratch`, which has at least 8,209 bytes.
-pub fn answer<R: ReadRoot>(
-    root: &mut R,
-    line: &[u8],
-    scratch: &mut [u8],
-) -> Result<Reply, AskFault>
+pub fn answer<R: ReadRoot>(root: &mut R, line: &[u8], scratch: &mut [u8]) -> Result<Reply, AskFault>
     requires { 8209 ≤ length scratch.old }
     ensures shows { R.shows root.new ≡ R.shows root.old }
     ensures root { R.root root.new ≡ R.root root.old }

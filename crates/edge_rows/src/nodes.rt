@@ -4,7 +4,9 @@ ghost use Rattle.edge_base.specs.layout.Sizes.{is_block_size};
 use crate::image::Image;
 use anyhow::{Result, bail, ensure};
 use edge_base::Geometry;
-use edge_nodes::{bit_of, bits_of, decode_imap, decode_inode, decode_master, decode_metaroot, entry_of};
+use edge_nodes::{
+    bit_of, bits_of, decode_imap, decode_inode, decode_master, decode_metaroot, entry_of,
+};
 
 /// Whether so many bytes make a block.
 pub fn is_block_size(length: usize) -> bool

@@ -13,6 +13,7 @@ use std::alloc::Global;
 
 // The most bytes of a line, and room for a reply.
 const LINE: usize = 8209;
+
 const REPLY: usize = 8256;
 
 // A line longer than this is told by the length and the check word of what it spells.
