@@ -11,6 +11,8 @@ import zlib
 from rows_model import (
     Disk, Fails, Fault, HostDisk, HostFolder, Row, Run, bad_geometry, escaped, imap_node,
     imap_pairs, inode, master, metaroot, number, order_of, sealed, table, unescaped)
+from rows_script import (
+    Bad, hex_in, number_in, path_in, reply_of, spelling_of, told_command)
 
 
 class Unknown(Exception):
@@ -211,6 +213,24 @@ class Table:
         bits[:1] = bytes([turn % 256])[:len(bits)]
         yield "  " + {"first_zero_from": least, "free_in": least, "count": str(counted - zeros), "counts_in": str(zeros),
                       "check_word": f"{zlib.crc32(bits):08x}"}[call]
+
+    def do_command(self, row, text, *_):
+        yield told_command(row.script + unescaped(text.partition(" ")[2]))
+
+    def do_word(self, row, text, what, *_):
+        word = unescaped(text.split(" ", 2)[2] if text.count(" ") > 1 else "")
+        if what == "spell":
+            yield "  " + escaped(spelling_of(word))
+            return
+        try:
+            read = {"number": number_in, "path": path_in, "hex": hex_in}[what](word)
+        except Bad:
+            yield "  None"
+        else:
+            yield f"  Some({read})" if what == "number" else "  " + escaped(read)
+
+    def do_reply(self, row, text, what, *words):
+        yield "  > " + escaped(reply_of(what, words, bytes(row.script))[:-1])
 
     def do_words(self, row, text, *words):
         order = order_of(words)

@@ -3,6 +3,8 @@ import os
 import struct
 import zlib
 
+from rows_script import asks_root
+
 SIZES = (512, 1024, 2048, 4096)
 LINE, LINES, BYTES = 8209, 2**32 - 1, 2**40
 
@@ -397,7 +399,7 @@ class Run:
                 return
             self.taken += len(line + feed)
             try:
-                reply = stat_root(self.disk, g, used) if line == b"stat /" else b"bad\n"
+                reply = stat_root(self.disk, g, used) if asks_root(line) else b"bad\n"
             except Damaged as damage:
                 self.status, self.tail = 6, " block %d kind %d" % damage.args
                 return

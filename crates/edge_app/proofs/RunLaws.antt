@@ -11,8 +11,9 @@ use Rattle.edge_model.specs.State.{State, judged, outcome_of}
 use Rattle.edge_model.specs.Step.{status_of, plan_stat, step}
 use Rattle.edge_model.specs.Run.{Answered, Run, opening, after_outcome, next_line, run_of}
 use Rattle.edge_image.specs.Opens.{head_of_node}
-use Rattle.edge_app.specs.Script.{letter_of, asks_root, stat_reply, bad_reply, reply_to, replies_to}
-use Rattle.edge_app.specs.Trees.{spelled, status_text, answer_text, run_text}
+use Rattle.edge_script.specs.Replies.{letter_of, status_text, bad_text}
+use Rattle.edge_app.specs.Script.{asks_root, stat_reply, reply_to, replies_to}
+use Rattle.edge_app.specs.Trees.{spelled, told_text, run_text}
 
 -- what a line is answered over a tree
 abbrev pub answer_to : Request → Tree → List ℕ → Answered
@@ -45,18 +46,18 @@ unfolding digits
 two_in_digits = refl
 
 -- the text of an answer is the reply to the line, where the root has this head
-same_text : (g : Request) (t : Tree) (node : Node) (line : List ℕ) → t 2 ≡ Some node → answer_text (answer_to g t line) ≡ reply_to (head_of_node g t 2 node) line
-same_text g t node line is = elim (asks_root line) as (λ b. answer_text (cond b (Some (Ok (status_of g t 2))) None) ≡ cond b (stat_reply (head_of_node g t 2 node)) bad_reply) [
+same_text : (g : Request) (t : Tree) (node : Node) (line : List ℕ) → t 2 ≡ Some node → told_text (answer_to g t line) ≡ reply_to (head_of_node g t 2 node) line
+same_text g t node line is = elim (asks_root line) as (λ b. told_text (cond b (Some (Ok (status_of g t 2))) None) ≡ cond b (stat_reply (head_of_node g t 2 node)) bad_text) [
   | true ↦ ap (λ n. status_text (record { number = 2; kind = kind_of n; size = size_of g n; links = links_of g t 2 })) (ap (λ o. unwrap_or o (file [] [])) is)
       ∙ ap (λ two. codes "ok " ++ two ++ codes " " ++ letter_of (kind_of node) ++ codes " " ++ decimal (size_of g node) ++ codes " " ++ decimal (links_of g t 2) ++ codes "\n") two_in_digits
   | false ↦ refl
 ]
 
-same_texts : (g : Request) (t : Tree) (node : Node) (lines : List (List ℕ)) → t 2 ≡ Some node → flat_map answer_text (map (answer_to g t) lines) ≡ replies_to (head_of_node g t 2 node) lines
+same_texts : (g : Request) (t : Tree) (node : Node) (lines : List (List ℕ)) → t 2 ≡ Some node → flat_map told_text (map (answer_to g t) lines) ≡ replies_to (head_of_node g t 2 node) lines
 same_texts g t node [] is = refl
 same_texts g t node (line ∷ lines) is = λ i. same_text g t node line is i ++ same_texts g t node lines is i
 
 -- the text of a run is the replies to its lines
 pub text_of_run : (g : Request) (t : Tree) (node : Node) (lines : List (List ℕ)) → t 2 ≡ Some node → run_text g t lines ≡ replies_to (head_of_node g t 2 node) lines
 unfolding run_text
-text_of_run g t node lines is = ap (flat_map answer_text) (answers_of_run g t lines) ∙ same_texts g t node lines is
+text_of_run g t node lines is = ap (flat_map told_text) (answers_of_run g t lines) ∙ same_texts g t node lines is

@@ -1,32 +1,49 @@
 -- The lines and the replies of a session.
-use Rattle.std.proofs.Common.{◌≡◌, ℕ, zero, suc, ◌<◌, ◌++◌, ◌&&◌, Bool, cond, eqb, List, [], ◌∷◌, length, take, refl, sym, ap, ◌∙◌, subst, arith, Ok, Err, Some}
-use Rattle.std.specs.Str.{bytes_eq}
-use Rattle.std.specs.Prelude.{Result}
+use Rattle.std.proofs.Common.{◌≡◌, ℕ, ◌<◌, ◌≤◌, ◌++◌, Bool, true, false, cond, List, [], length, take, refl, sym, ap, ◌∙◌, subst, arith, Ok, Err, Some}
+use Rattle.std.specs.Prelude.{nat_le, Option, None, Result}
+use Rattle.std.proofs.lemmas.Bool.Decides.{nat_tests}
+use Rattle.std.proofs.lemmas.List.{take_all, length-take-le}
 use Rattle.edge_base.specs.declared.damage.Damage.{Damage}
 use Rattle.edge_base.specs.declared.node.Head.{Head}
 use Rattle.edge_model.specs.declared.ask.AskFault.{AskFault}
 use Rattle.edge_model.specs.declared.ask.AskFault.TheVariants.{Device, Damaged}
 use Rattle.edge_app.specs.declared.session.How.TheVariants.{Fault}
-use Rattle.edge_app.specs.Script.{asks_root, stat_line, stat_reply, bad_reply, reply_with, HasReply}
+use Rattle.edge_script.specs.Reading.{command_in, command_of_bytes}
+use Rattle.edge_script.specs.Replies.{bad_text}
+use Rattle.edge_app.specs.Script.{is_one_built, asks_root, stat_reply, reply_with, HasReply}
 use Rattle.edge_app.specs.Feeds.{kept_part, TakesLine}
 use Rattle.edge_io.specs.Streams.{TookPart}
 use Rattle.edge_app.specs.Turn.{AnswersTo, AnswersLine, AnswersPart, LeavesLine, StopsAtDamage, Turns}
 
--- a front that is longer than a text differs from it where the whole does
-eq-front : (room : ℕ) (line text : List ℕ) → length text < room → bytes_eq (take room line) text ≡ bytes_eq line text
-eq-front zero line text h = absurd (omega arith)
-eq-front (suc room) [] text h = refl
-eq-front (suc room) (x ∷ line) [] h = refl
-eq-front (suc room) (x ∷ line) (y ∷ text) h = ap (λ b. eqb x y && b) (eq-front room line text (omega arith))
+above : (n : ℕ) → nat_le n 8209 ≡ false → 8209 < n
+above n e = grind (arith, nat_tests)
 
--- what is kept of a line asks as the line does
-asks_root-kept : (line : List ℕ) → asks_root (kept_part line) ≡ asks_root line
+too_long : (n : ℕ) → 8209 < n → nat_le n 8209 ≡ false
+too_long n h = grind (arith, nat_tests)
+
+below : (n : ℕ) → nat_le n 8209 ≡ true → n ≤ 8209
+below n e = grind (arith, nat_tests)
+
+-- what is kept of a line spells what the line does
+command_in-kept : (line : List ℕ) → command_in (kept_part line) ≡ command_in line
 unfolding kept_part
-asks_root-kept line = eq-front 8210 line stat_line (omega arith)
+command_in-kept line = go (nat_le (length line) 8209) refl
+  where
+    go : (t : Bool) → nat_le (length line) 8209 ≡ t → command_in (take 8210 line) ≡ command_in line
+    go true is = ap command_in (take_all 8210 line (let short = below (length line) is in omega arith))
+    go false is =
+        let long = above (length line) is in
+        let kept = length-take-le 8210 line (omega arith) in
+        ap (λ t. cond t (command_of_bytes (take 8210 line)) None) (too_long (length (take 8210 line)) (omega arith))
+        ∙ sym (ap (λ t. cond t (command_of_bytes line) None) is)
+
+-- and asks as the line does
+asks_root-kept : (line : List ℕ) → asks_root (kept_part line) ≡ asks_root line
+asks_root-kept line = ap is_one_built (command_in-kept line)
 
 reply-kept : (root : Result Head Damage) (line : List ℕ) → reply_with root (kept_part line) ≡ reply_with root line
-reply-kept (Ok head) line = ap (λ b. cond b (stat_reply head) bad_reply) (asks_root-kept line)
-reply-kept (Err damage) line = ap (λ b. cond b [] bad_reply) (asks_root-kept line)
+reply-kept (Ok head) line = ap (λ b. cond b (stat_reply head) bad_text) (asks_root-kept line)
+reply-kept (Err damage) line = ap (λ b. cond b [] bad_text) (asks_root-kept line)
 
 has_reply-kept : (root : Result Head Damage) (line : List ℕ) → HasReply root (kept_part line) → HasReply root line
 has_reply-kept (Ok head) line h = h

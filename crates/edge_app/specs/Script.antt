@@ -1,11 +1,12 @@
 -- The text of a script and of the replies to it.
-use Rattle.std.specs.Prelude.{◌≡◌, ◌⊎◌, ◌≤◌, ℕ, ◌==◌, ◌&&◌, not, Bool, false, if◌then◌else◌, List, [], ◌∷◌, ◌++◌, length, take, slice_index_or, Result, Ok, Err, codes, decimal}
+use Rattle.std.specs.Prelude.{◌≡◌, ◌⊎◌, ◌≤◌, ℕ, ◌==◌, ◌&&◌, not, Bool, false, if◌then◌else◌, List, [], ◌∷◌, ◌++◌, length, take, slice_index_or, Option, Some, None, Result, Ok, Err, codes, decimal}
 use Rattle.std.specs.List.{flat_map}
 use Rattle.std.specs.Str.{bytes_eq}
 use Rattle.edge_base.specs.declared.damage.Damage.{Damage}
 use Rattle.edge_base.specs.declared.node.Head.{Head}
-use Rattle.edge_base.specs.declared.node.NodeType.{NodeType}
-use Rattle.edge_base.specs.declared.node.NodeType.TheVariants.{File, Directory}
+use Rattle.edge_model.specs.Asked.{Asked, stat}
+use Rattle.edge_script.specs.Reading.{command_in}
+use Rattle.edge_script.specs.Replies.{letter_of, bad_text}
 use Rattle.edge_app.specs.declared.run_command.TheConstants.{MOST_LINES, MOST_BYTES}
 
 -- ---- lines
@@ -55,28 +56,26 @@ pub record FitsSession (script : List ℕ) : Type 0 where
 
 -- ---- replies
 
-abbrev pub letter_of : NodeType → List ℕ
-letter_of File = codes "f"
-letter_of Directory = codes "d"
-
 -- ok NUMBER KIND SIZE LINKS, of the root directory
 abbrev pub stat_reply : Head → List ℕ
 stat_reply head = codes "ok 2 " ++ letter_of head.kind ++ codes " " ++ decimal head.size ++ codes " " ++ decimal head.links ++ codes "\n"
 
-abbrev pub bad_reply : List ℕ
-bad_reply = codes "bad\n"
+-- the one command that is built: `stat` of the root's path
+abbrev pub is_built : Asked → Bool
+is_built (stat path) = bytes_eq path (codes "/")
+is_built command = false
 
--- the one line that is a command
-abbrev pub stat_line : List ℕ
-stat_line = codes "stat /"
+abbrev pub is_one_built : Option Asked → Bool
+is_one_built None = false
+is_one_built (Some command) = is_built command
 
--- whether a line is that command, and so asks for the root
+-- whether a line spells that command, and so asks for the root
 abbrev pub asks_root : List ℕ → Bool
-asks_root line = bytes_eq line stat_line
+asks_root line = is_one_built (command_in line)
 
--- The reply to a line, where the root directory has this head. A line that is no command is bad.
+-- The reply to a line, where the root directory has this head. A line that spells no command that is built is bad.
 abbrev pub reply_to : Head → List ℕ → List ℕ
-reply_to head line = if asks_root line then stat_reply head else bad_reply
+reply_to head line = if asks_root line then stat_reply head else bad_text
 
 -- the replies to lines, in their order
 abbrev pub replies_to : Head → List (List ℕ) → List ℕ
@@ -85,7 +84,7 @@ replies_to head lines = flat_map (reply_to head) lines
 -- The same where the root directory may be damaged. A line that asks for it has no reply then.
 abbrev pub reply_with : Result Head Damage → List ℕ → List ℕ
 reply_with (Ok head) line = reply_to head line
-reply_with (Err damage) line = if asks_root line then [] else bad_reply
+reply_with (Err damage) line = if asks_root line then [] else bad_text
 
 -- whether a line has a reply
 abbrev pub HasReply : Result Head Damage → List ℕ → Type 0

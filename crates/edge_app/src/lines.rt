@@ -8,8 +8,11 @@ use std::alloc::{AllocError, Global};
 /// How many bytes are read from a source at once.
 const INPUT: usize = 65_536;
 
-/// One byte more than a line may have that is a command.
-const KEPT: usize = 8210;
+/// The most bytes of a line that spells a command.
+pub const LONGEST_LINE: usize = 8209;
+
+// One byte more is kept of a line.
+const KEPT: usize = LONGEST_LINE + 1;
 
 /// What the next bytes of a script are.
 #[derive(Clone, Copy, PartialEq, Eq)]

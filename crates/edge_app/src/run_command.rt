@@ -5,7 +5,7 @@ ghost use Rattle.edge_app.specs.Stream.{pending, used_of, ended_of};
 ghost use Rattle.edge_app.specs.World.{world_with_clock};
 ghost use Rattle.edge_io.specs.States.{ClockState};
 
-use crate::lines::LineReader;
+use crate::lines::{LONGEST_LINE, LineReader};
 use crate::report::{MEMORY, Outcome, Report};
 use crate::session::{Limit, serve};
 use crate::volume::Volume;
@@ -28,6 +28,7 @@ const LIMITS: Limit = Limit {
 #[derive(Drop)]
 struct Buffers {
     lines: LineReader,
+    scratch: Vec<u8>,
     metaroot: Vec<u8>,
     block: Vec<u8>,
 }
@@ -37,11 +38,13 @@ impl Buffers {
         ensures unused { IfOk result (λ b. used_of b.lines ≡ 0) }
         ensures nothing_pending { IfOk result (λ b. pending b.lines ≡ []) }
         ensures not_ended { IfOk result (λ b. ended_of b.lines ≡ false) }
+        ensures scratch { IfOk result (λ b. vec_len b.scratch ≡ 8209) }
         ensures metaroot { IfOk result (λ b. vec_len b.metaroot ≡ block_size) }
         ensures block { IfOk result (λ b. vec_len b.block ≡ block_size) }
     {
         Ok(Buffers {
             lines: LineReader::new(alloc)?,
+            scratch: vec![in alloc; 0u8; LONGEST_LINE]?,
             metaroot: vec![in alloc; 0u8; block_size as usize]?,
             block: vec![in alloc; 0u8; block_size as usize]?,
         })
@@ -79,7 +82,14 @@ pub fn run_image<S: Source, K: Sink, D: Disk>(
             disk,
         },
         Ok(mut volume) => {
-            let ended = serve(src, out, &mut volume, LIMITS, &mut buffers.lines);
+            let ended = serve(
+                src,
+                out,
+                &mut volume,
+                LIMITS,
+                &mut buffers.lines,
+                &mut buffers.scratch,
+            );
             Outcome {
                 report: Report::served(ended),
                 disk: volume.into_disk(),

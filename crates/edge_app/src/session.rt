@@ -1,4 +1,4 @@
-ghost use Rattle.std.specs.Prelude.{◌≡◌, ◌⊎◌, ◌≤◌, [], IsTrue, Some, None, Err, true, false};
+ghost use Rattle.std.specs.Prelude.{◌≡◌, ◌⊎◌, ◌≤◌, length, [], IsTrue, Some, None, Err, true, false};
 ghost use Rattle.edge_app.specs.Feeds.{SeesEnd};
 ghost use Rattle.edge_base.specs.declared.damage.Damage.{Damage};
 ghost use Rattle.edge_model.specs.declared.ask.AskFault.TheVariants.{Damaged};
@@ -52,7 +52,9 @@ fn turn<S: Source, K: Sink, R: ReadRoot>(
     has_room: bool,
     bytes: u64,
     lines: &mut LineReader,
+    scratch: &mut [u8],
 ) -> Option<How>
+    requires scratch { 8209 ≤ length scratch.old }
     requires limit { used_of lines.old ≤ bytes }
     requires seen { SeesEnd (S.tells src.old) (ended_of lines.old) (S.left src.old) }
 
@@ -93,7 +95,7 @@ fn turn<S: Source, K: Sink, R: ReadRoot>(
         Ok(Next::Limit) => return Some(How::Limit),
         Err(_) => return Some(How::Source),
     }
-    let reply = match answer(root, lines.line()) {
+    let reply = match answer(root, lines.line(), scratch) {
         Ok(reply) => reply,
         Err(fault) => return Some(How::Fault(fault)),
     };
@@ -116,14 +118,17 @@ fn taken_at(how: How, before: u64, after: u64) -> u64
 }
 
 /// Answers a script line by line, from its beginning. The reply to a line is given to the sink
-/// before the next line is taken up. `lines` has taken nothing up.
+/// before the next line is taken up. `lines` has taken nothing up, and lines are read in `scratch`,
+/// which has at least 8,209 bytes.
 pub fn serve<S: Source, K: Sink, R: ReadRoot>(
     src: &mut S,
     out: &mut K,
     root: &mut R,
     limit: Limit,
     lines: &mut LineReader,
+    scratch: &mut [u8],
 ) -> Ended
+    requires scratch { 8209 ≤ length scratch.old }
     requires unused { used_of lines.old ≡ 0 }
     requires nothing_pending { pending lines.old ≡ [] }
     requires not_ended { ended_of lines.old ≡ false }
@@ -155,7 +160,7 @@ pub fn serve<S: Source, K: Sink, R: ReadRoot>(
     loop {
         let taken = lines.used();
         let has_room = commands < limit.lines;
-        match turn(src, out, root, has_room, limit.bytes, lines) {
+        match turn(src, out, root, has_room, limit.bytes, lines, scratch) {
             None => commands += 1,
             Some(how) => {
                 return Ended {

@@ -12,6 +12,7 @@ mod orders;
 mod pieces;
 mod places;
 mod row;
+mod script;
 mod streams;
 mod text;
 

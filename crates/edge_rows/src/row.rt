@@ -9,6 +9,7 @@ use crate::image::Image;
 use crate::nodes::{push_block, push_imap, push_node};
 use crate::orders::{clock_of, order, push_answer, sure_order};
 use crate::places::{push_geometry, push_numbers, push_words};
+use crate::script::{push_command, push_reply, push_word};
 use crate::streams::{push_clock, push_folder, push_sink, push_source};
 use crate::text::{byte, moments, number, number32, numbers, push_faults, unescaped, word};
 use anyhow::{Context, Result, ensure};
@@ -77,6 +78,7 @@ pub fn answer_row<R: Files<File = File> + AllocGlobal + Clock>(
         let is_done = change(rt, image, verb, rest)?
             || set(rt.alloc(), &mut row, verb, rest)?
             || write_script(rt.alloc(), &mut row, verb, text)?
+            || tell_script(rt.alloc(), &mut out, &row, verb, text, rest)?
             || tell(rt.alloc(), &mut out, &row, image, verb, rest)?
             || tell_part(rt.alloc(), &mut out, &row, image, verb, rest)?
             || change_host(rt, verb, rest)?
@@ -158,6 +160,28 @@ fn write_script(alloc: Global, row: &mut Row, verb: &str, text: &str) -> Result<
     }
     if verb == "line" {
         row.script.push(b'\n')?;
+    }
+    Ok(true)
+}
+
+// Appends how the text of a script is read or written, where this is such a statement.
+fn tell_script(
+    alloc: Global,
+    out: &mut String,
+    row: &Row,
+    verb: &str,
+    text: &str,
+    words: &[&str],
+) -> Result<bool> {
+    let (_, rest) = text.split_once(' ').unwrap_or((text, ""));
+    match verb {
+        "command" => push_command(alloc, out, &row.script, rest)?,
+        "word" => {
+            let (what, bytes) = rest.split_once(' ').unwrap_or((rest, ""));
+            push_word(alloc, out, what, bytes)?;
+        }
+        "reply" => push_reply(alloc, out, &row.script, words)?,
+        _ => return Ok(false),
     }
     Ok(true)
 }

@@ -12,7 +12,7 @@ use Rattle.edge_app.proofs.RunsLaws.{runs_unserved, runs_unmounted, causes_unmou
 use Rattle.edge_app.proofs.run_command.run_image.Goals as goal
 
 -- the count of the disk's faults, from the beginning on
-device_counted : (g : Rattle.edge_app.proofs.run_command.run_image.Given.Over) (c : goal.After-drop-buffers-3 g) → RootCount (Some c.serve-ended.result.how) (g.D.Disk.faults c.args.disk) (g.D.Disk.faults c.into_disk.result)
+device_counted : (g : Rattle.edge_app.proofs.run_command.run_image.Given.Over) (c : goal.After-drop-buffers-4 g) → RootCount (Some c.serve-ended.result.how) (g.D.Disk.faults c.args.disk) (g.D.Disk.faults c.into_disk.result)
 device_counted g c = subst (λ (n : ℕ). RootCount (Some c.serve-ended.result.how) n (g.D.Disk.faults c.into_disk.result)) c.in-Ok-mount.ensures.cause
     (subst (λ d. RootCount (Some c.serve-ended.result.how) (g.D.Disk.faults c.in-Ok-mount.volume.disk) (g.D.Disk.faults d)) (sym c.into_disk.ensures) c.serve-ended.ensures.device)
 
