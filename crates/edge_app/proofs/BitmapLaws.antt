@@ -1,5 +1,5 @@
 -- Which blocks the bits of imap nodes tell.
-use Rattle.std.proofs.Common.{◌≡◌, inl, inr, ℕ, zero, suc, ◌+◌, ◌-◌, ◌*◌, ◌/◌, ◌%◌, ◌<◌, ◌≤◌, ◌||◌, ◌==◌, min, Bool, true, false, not, cond, List, length, drop, get_or, refl, sym, ap, subst, ◌∙◌, arith, below_more}
+use Rattle.std.proofs.Common.{◌≡◌, ℕ, ◌+◌, ◌-◌, ◌*◌, ◌/◌, ◌%◌, ◌<◌, ◌≤◌, Bool, true, false, not, cond, List, length, drop, get_or, sym, ap, ◌∙◌, arith, below_more}
 use Rattle.std.specs.Prelude.{count_by, Some}
 use Rattle.std.specs.List.{list_any, range_with_len}
 use Rattle.std.proofs.Math.Nat.{add-mul-div_right, add-mul-mod_self_right, div-eq_of_lt, mod-eq_of_lt}
@@ -14,7 +14,7 @@ use Rattle.edge_base.specs.layout.Sizes.{node_bits}
 use Rattle.edge_image.specs.Image.{is_free, has_bad_imap, spells_imap}
 use Rattle.edge_image.proofs.FormattedLaws.{none_passes}
 use Rattle.edge_nodes.proofs.BytesLaws.{bit_in-drop}
-use Rattle.edge_app.specs.Bitmap.{IsPart, TellsPart, IsFoundBefore, FitsBefore, IsFound, FindsBitmap, FindsNode, node_start, number_behind}
+use Rattle.edge_app.specs.Bitmap.{IsPart, TellsPart, IsFoundBefore, IsFound, FindsNode, node_start, number_behind}
 use Rattle.edge_app.specs.declared.found.Found.{Found}
 
 -- ---- the whole bitmap

@@ -1,6 +1,6 @@
 -- The lines and the replies of a session.
 use Rattle.std.proofs.Common.{◌≡◌, ℕ, ◌<◌, ◌≤◌, ◌++◌, Bool, true, false, cond, List, [], length, take, refl, sym, ap, ◌∙◌, subst, arith, Ok, Err, Some}
-use Rattle.std.specs.Prelude.{nat_le, Option, None, Result}
+use Rattle.std.specs.Prelude.{nat_le, None, Result}
 use Rattle.std.proofs.lemmas.Bool.Decides.{nat_tests}
 use Rattle.std.proofs.lemmas.List.{take_all, length-take-le}
 use Rattle.edge_base.specs.declared.damage.Damage.{Damage}

@@ -9,7 +9,7 @@ use Rattle.edge_base.specs.declared.node.Head.{Head}
 use Rattle.edge_base.specs.declared.node.Master.{Master}
 use Rattle.edge_base.specs.layout.Places.{inode_place_of}
 use Rattle.edge_disk.specs.Image.{Image, shown_image}
-use Rattle.edge_image.specs.Image.{Live, live_of, used_in, used_place, place_of, head_told, head_by, root_number}
+use Rattle.edge_image.specs.Image.{live_of, used_in, used_place, place_of, head_told, head_by, root_number}
 use Rattle.edge_image.specs.Ready.{IsReady}
 use Rattle.edge_app.specs.Mount.{IsVolume}
 use Rattle.edge_disk.specs.State.{IsUntouched, shown_by}

@@ -2,7 +2,7 @@
 use Rattle.std.specs.Prelude.{◌≡◌, ◌⊎◌, ◌<◌, ◌≤◌, ℕ, IsTrue, [], ◌++◌, take}
 use Rattle.edge_base.specs.declared.geometry.Request.{Request}
 use Rattle.edge_base.specs.declared.node.Head.{Head}
-use Rattle.edge_disk.specs.State.{shown_by, EachCut, IsUntouched}
+use Rattle.edge_disk.specs.State.{shown_by, EachPermitted, IsUntouched}
 use Rattle.edge_image.specs.Opens.{OpensTo, IsSound}
 use Rattle.edge_image.specs.Ready.{IsReady}
 use Rattle.edge_model.specs.Tree.{Tree}
@@ -57,7 +57,7 @@ pub record Runs (before after : World) (report : Report) : Type 0 where
   -- no point is taken, and the disk is given back as it was, so that each image that a cut may leave still opens to the tree
   pub points : report.points ≡ 0
   pub disk : IsUntouched before.disk after.disk
-  pub cut : (t : Tree) → IsSound before.disk t → EachCut after.disk (λ image. OpensTo image t)
+  pub cut : (t : Tree) → IsSound before.disk t → EachPermitted after.disk (λ image. OpensTo image t)
   pub clock : after.clock.moments ≡ before.clock.moments
   pub limits : KeepsLimits report
   pub unserved : IsTrue (has_no_session report.status) → IsUnserved before after report

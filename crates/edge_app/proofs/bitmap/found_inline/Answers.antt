@@ -1,4 +1,4 @@
-use Rattle.std.proofs.Common.{◌≡◌, ℕ, drop, ap, subst, sym}
+use Rattle.std.proofs.Common.{ℕ, drop, ap, subst, sym}
 use Rattle.edge_base.specs.layout.Bitmap.{used_under}
 use Rattle.edge_base.specs.layout.Places.{table_start_of}
 use Rattle.edge_app.specs.Bitmap.{TellsPart, IsFoundBefore}

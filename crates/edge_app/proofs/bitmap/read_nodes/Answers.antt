@@ -1,11 +1,11 @@
-use Rattle.std.proofs.Common.{◌≡◌, ◌≤◌, ◌<◌, ◌+◌, ℕ, List, Some, None, drop, refl, subst, sym, ap, ◌∙◌, arith}
+use Rattle.std.proofs.Common.{◌≡◌, ◌<◌, ℕ, List, Some, None, drop, refl, subst, sym, ap, ◌∙◌, arith}
 use Rattle.std.specs.Prelude.{IsTrue}
 use Rattle.edge_base.specs.layout.Bitmap.{used_under}
 use Rattle.edge_base.specs.layout.Places.{imap_nodes_of}
 use Rattle.edge_disk.specs.Disk.{Origin}
 use Rattle.edge_disk.proofs.StateLaws.{untouched, untouched-twice}
 use Rattle.edge_app.specs.Bitmap.{FitsBefore, FindsNode, IsFoundBefore, node_start}
-use Rattle.edge_app.proofs.BitmapLaws.{ReadNodes, first_start, last_start, read_more, read_bad, read_good, found_all}
+use Rattle.edge_app.proofs.BitmapLaws.{first_start, last_start, read_more, read_bad, read_good, found_all}
 use Rattle.edge_app.proofs.bitmap.read_nodes.Goals as goal
 
 pub loop-node-init : goal.loop-node-init

@@ -1,4 +1,4 @@
-use Rattle.std.proofs.Common.{◌≡◌, max, ℕ, ◌+◌, ◌-◌, not, ap, ◌∙◌, arith}
+use Rattle.std.proofs.Common.{◌≡◌, max, ◌+◌, ◌-◌, not, ap, ◌∙◌, arith}
 use Rattle.std.specs.List.{count_by, range_with_len}
 use Rattle.edge_base.specs.layout.Places.{first_allocable_of}
 use Rattle.edge_image.specs.Image.{is_unused}

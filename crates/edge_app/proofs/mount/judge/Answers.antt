@@ -1,4 +1,4 @@
-use Rattle.std.proofs.Common.{◌≤◌, ◌^◌, drop, Some, refl, sym, ◌∙◌, arith, ap}
+use Rattle.std.proofs.Common.{◌≤◌, ◌^◌, drop, Some, sym, ◌∙◌, arith}
 use Rattle.edge_base.specs.layout.Bitmap.{used_under}
 use Rattle.edge_app.specs.Bitmap.{FindsBitmap}
 use Rattle.edge_app.proofs.MountLaws.{judge, by_counts}
