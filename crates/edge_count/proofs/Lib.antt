@@ -5,3 +5,4 @@ pub mod SplitLaws
 pub mod NeedLaws
 pub mod SizeLaws
 pub mod AfterLaws
+pub mod RoomLaws

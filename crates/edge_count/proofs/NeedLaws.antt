@@ -85,23 +85,21 @@ module _ (g : Request) (c v : View) (n i : ℕ) (indices : List ℕ) (shape : Ha
   two false true = refl
   two false false = refl
 
+  pub inner_block : (entry outer place : ℕ) → GoesThrough g indices (Both entry outer place)
+      → indirect_block g v n (indirect_in g (entry - g.direct - g.indirect) outer) ≡ slice_index (entries_at v Double (entry_at v n entry)) outer
+  inner_block entry outer place t =
+      let d : ℕ = entry - g.direct - g.indirect in
+      let node = (in_node g v n indices shape (indirect_in g d outer) 0 place t.2 t.3).3 in
+      let there = pointer_there v Double (double_block g v n d) outer (λ zero_p. node (indirect_down g v n indices shape d outer t.1 ∙ zero_p)) in
+      sym (indirect_pointer g v n indices shape d there outer t.1) ∙ ap (λ (b : ℕ). slice_index (entries_at v Double b) outer) (double_entry g v n entry t.0).1
+
   sum : (k : Cut) → GoesThrough g indices k → of_form k Plain + of_form k Indirect + of_form k Double ≡ need_of c v n k
   sum (Whole entry) t = refl
   sum (Node entry place) t = one_indirect (is_dirty g c v (at n Indirect (entry - g.direct))) ∙ ap (cost c v) (single_entry g v n entry t.0 t.1).1
   sum (Top entry place) t = one_double (is_dirty g c v (at n Double (entry - g.direct - g.indirect))) ∙ ap (cost c v) (double_entry g v n entry t.0).1
   sum (Both entry outer place) t =
       two (is_dirty g c v (at n Indirect (indirect_in g (entry - g.direct - g.indirect) outer))) (is_dirty g c v (at n Double (entry - g.direct - g.indirect)))
-      ∙ (λ x. cost c v (top x) + cost c v (inner x))
-    where
-      top : double_block g v n (entry - g.direct - g.indirect) ≡ entry_at v n entry
-      top = (double_entry g v n entry t.0).1
-
-      inner : indirect_block g v n (indirect_in g (entry - g.direct - g.indirect) outer) ≡ slice_index (entries_at v Double (entry_at v n entry)) outer
-      inner =
-          let d : ℕ = entry - g.direct - g.indirect in
-          let node = (in_node g v n indices shape (indirect_in g d outer) 0 place t.2 t.3).3 in
-          let there = pointer_there v Double (double_block g v n d) outer (λ zero_p. node (indirect_down g v n indices shape d outer t.1 ∙ zero_p)) in
-          sym (indirect_pointer g v n indices shape d there outer t.1) ∙ ap (λ (b : ℕ). slice_index (entries_at v Double b) outer) top
+      ∙ (λ x. cost c v ((double_entry g v n entry t.0).1 x) + cost c v (inner_block entry outer place t x))
 
   -- The fresh positions of a cut are as many as the blocks that it needs.
   pub fresh_cut : fresh_count g c v [] gone ≡ cut_need g c v n i

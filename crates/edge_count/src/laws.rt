@@ -8,11 +8,11 @@ ghost use Rattle.edge_base.specs.declared.geometry.Request.{Request};
 ghost use Rattle.edge_base.specs.layout.Places.{IsGeometry, max_blocks_of};
 ghost use Rattle.edge_base.specs.tree.Positions.{Position, data_at, ancestors, chain, positions_of, has, count_of};
 ghost use Rattle.edge_store.specs.Fresh.{is_dirty, fresh_count};
-ghost use Rattle.edge_store.specs.View.{View, free_after};
+ghost use Rattle.edge_store.specs.View.{View, free_after, free_now};
 ghost use Rattle.edge_shape.specs.declared.cut.Cut.{Cut};
 ghost use Rattle.edge_shape.specs.Cut.{IsCut};
 ghost use Rattle.edge_shape.specs.Shape.{HasShape, at};
-ghost use Rattle.edge_shape.specs.Where.{cut_need};
+ghost use Rattle.edge_shape.specs.Where.{cut_at, cut_need};
 ghost use Rattle.edge_count.specs.Cuts.{removed};
 ghost use Rattle.edge_count.specs.Runs.{IsRanges, run_first, run_count};
 
@@ -80,4 +80,11 @@ pub fn a_cut_gives_back_what_is_gone()
         → HasShape g v n indices → IsCut g c v w n cut indices rest
         → free_after g v + count_of (positions_of g n indices)
         ≡ free_after g w + count_of (positions_of g n rest) }
+{}
+
+/// A cut at an index takes no more of the blocks that are free now than it needs.
+pub fn a_cut_takes_no_more_than_it_needs()
+    ensures { (g : Request) (c v w : View) (n i : ℕ) (indices rest : List ℕ)
+        → HasShape g v n indices → IsCut g c v w n (cut_at g v n i) indices rest
+        → free_now g c v ≤ free_now g c w + cut_need g c v n i }
 {}

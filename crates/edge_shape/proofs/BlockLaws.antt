@@ -100,7 +100,7 @@ module _ (g : Request) (c v u w : View) (n : ℕ) (cut : Cut) (indices rest : Li
         let there_u : block_at g u (at n form m) ≢ 0 = λ none. there_w (trims.stays form m h ∙ none) in
         elim (renews.places form m (was_there form m there_u)) [
           | inl same ↦ inl (trims.stays form m h ∙ same)
-          | inr away ↦ inr (still_none (block_at g v (at n form m)) away.gone, ap v.blocks (trims.stays form m h) ∙ away.unused)
+          | inr away ↦ inr (still_none (block_at g v (at n form m)) away.gone, ap v.blocks (trims.stays form m h) ∙ away.unused, away.committed)
         ];
     dropped = λ form m h none. ap w.blocks (sym (renews.stays form m (not_through form m none))) ∙ trims.dropped form m h none;
     inodes = λ m away. trims.inodes m away ∙ renews.inodes m away;

@@ -33,10 +33,11 @@ pub record IsCut (g : Request) (c v w : View) (n : ℕ) (cut : Cut) (indices res
       → is_dirty g c w (at n form m) ≡ (is_dirty g c v (at n form m) || is_through g cut form m)
   pub moved : (form : Form) (m : ℕ) → has (positions_of g n rest) (at n form m) ≡ true → is_through g cut form m ≡ false
       → block_at g w (at n form m) ≡ block_at g v (at n form m)
-  -- what moves leaves its old block unused, for one that was not used
+  -- what moves leaves its old block, one of the last point, unused, for one that was not used
   pub places : (form : Form) (m : ℕ) → has (positions_of g n rest) (at n form m) ≡ true
       → (block_at g w (at n form m) ≡ block_at g v (at n form m))
-      ⊎ ((w.blocks (block_at g v (at n form m)) ≡ None) × (v.blocks (block_at g w (at n form m)) ≡ None))
+      ⊎ ((w.blocks (block_at g v (at n form m)) ≡ None) × (v.blocks (block_at g w (at n form m)) ≡ None)
+      × (is_used c (block_at g v (at n form m)) ≡ true))
   -- blocks of positions that are gone are not used
   pub dropped : (form : Form) (m : ℕ) → has (positions_of g n indices) (at n form m) ≡ true → has (positions_of g n rest) (at n form m) ≡ false
       → w.blocks (block_at g v (at n form m)) ≡ None
