@@ -1,0 +1,15 @@
+pub mod SlotLaws
+pub mod CountLaws
+pub mod NodeLaws
+pub mod ReachLaws
+pub mod WalkLaws
+pub mod MakeLaws
+pub mod DropLaws
+pub mod FileLaws
+pub mod OpenLaws
+pub mod PlanLaws
+pub mod NameLaws
+pub mod MoveLaws
+pub mod RenameLaws
+pub mod RenamePlans
+pub mod TreeLaws
