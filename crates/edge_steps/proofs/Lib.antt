@@ -13,3 +13,8 @@ pub mod MoveLaws
 pub mod RenameLaws
 pub mod RenamePlans
 pub mod TreeLaws
+pub mod RoomLaws
+pub mod ChainLaws
+pub mod ShrinkLaws
+pub mod SpaceLaws
+pub mod SessionLaws

@@ -186,7 +186,7 @@ unlink_sound g s path has =
     (λ yes. absurd (false≢true (sym (passes _ _ u kind) ∙ yes)))
     (other_false (has_one_link g s.tree found.number) (is_open s.descriptors found.number) (passes _ _ v free)))))))
 
-after_names : (g : Request) (t : Tree) (path : List ℕ) (names : List (List ℕ)) (spot : Spot) → names_of g.name_max path ≡ Ok names → walk t names ≡ Ok spot → spot_of g t path ≡ Ok spot
+pub after_names : (g : Request) (t : Tree) (path : List ℕ) (names : List (List ℕ)) (spot : Spot) → names_of g.name_max path ≡ Ok names → walk t names ≡ Ok spot → spot_of g t path ≡ Ok spot
 after_names g t path names spot named at = ap (λ (r : Result (List (List ℕ)) Refusal). r >>= walk t) named ∙ at
 
 pub remove_dir_sound : (g : Request) (s : State) (path : List ℕ) → HasTrees g s → Gives (IsSound g s) (plan_remove_dir g s path)

@@ -231,7 +231,7 @@ file_place s h d was =
     let same = ok_is r.0 d (Ok r.0) refl q.1 in
     (at_place s h r.0 r.1 ∙ ap Some same, ap (λ (x : Descriptor). x.directory) (sym same) ∙ q.0)
 
-writable_place : (s : State) (h : ℕ) (d : Descriptor) → writable_at s h ≡ Ok d → (descriptor_at s.descriptors h ≡ Some d) × (d.directory ≡ false)
+pub writable_place : (s : State) (h : ℕ) (d : Descriptor) → writable_at s h ≡ Ok d → (descriptor_at s.descriptors h ≡ Some d) × (d.directory ≡ false)
 writable_place s h d was =
     let r = after_part (file_at s h) (λ d. refuse_if (not d.write) refusal.BadDescriptor >>= λ _. Ok d) d was in
     let q = after_test (not r.0.write) refusal.BadDescriptor (Ok r.0) d r.2 in

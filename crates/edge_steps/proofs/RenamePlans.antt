@@ -55,7 +55,7 @@ least_size n e = ⊎_elim
     (λ f. is_large n 4096 (omega arith) f)
     (or_cases ((n == 512) || (n == 1024) || (n == 2048)) (n == 4096) e)
 
-some_slots : (g : Request) → IsGeometry g → 0 < slots_in_block g
+pub some_slots : (g : Request) → IsGeometry g → 0 < slots_in_block g
 unfolding bad_geometry
 some_slots g is =
     let size = rest (not (is_block_size g.block_size)) BlockSize _ is in
@@ -67,7 +67,7 @@ some_slots g is =
 
 -- ---- the place of a name that is there
 
-inside : (slots : Slots) (i : ℕ) (e : Entry) → slot_in slots i ≡ Some e → i < length slots
+pub inside : (slots : Slots) (i : ℕ) (e : Entry) → slot_in slots i ≡ Some e → i < length slots
 inside slots i e h = ⊎_elim
     (λ (low : i < length slots). low)
     (λ (past : length slots ≤ i). absurd (none_some e (sym (get_or_past slots i None past) ∙ h)))
@@ -319,7 +319,7 @@ to_sound g s to df name found dt target None is has from at goes good outside at
     gives_ok _ _ (moves_sound g s to df name found dt target has from at goes good outside at_to slot room))
 
 -- number 0 is no directory
-no_zero : (g : Request) (t : Tree) → IsTree g t → is_directory t 0 ≡ true → ⊥
+pub no_zero : (g : Request) (t : Tree) → IsTree g t → is_directory t 0 ≡ true → ⊥
 no_zero g t tree kind = let range = tree.in_range 0 (directory_there t 0 kind) in absurd (omega arith)
 
 spots_sound : (g : Request) (s : State) (path to : List ℕ) (from spot : Spot) (found : Found) → IsGeometry g → HasTrees g s → AreBytes to → two_paths g.name_max path to ≡ Ok tt → is_top path ≡ false → is_top to ≡ false → walk s.tree (names_in path) ≡ Ok from → at_spot s.tree from ≡ Some found

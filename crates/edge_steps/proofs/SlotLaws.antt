@@ -94,7 +94,7 @@ put_tail None xs [] h = absurd (let wrong : [] ≡ None ∷ xs = h in cc)
 put_tail None xs (y ∷ ys) h = let both : None ∷ y ∷ ys ≡ None ∷ xs = h in cc
 put_tail (Some e) xs ys h = let both : Some e ∷ ys ≡ Some e ∷ xs = h in cc
 
-trimmed_tail : (x : Option Entry) (xs : Slots) → trimmed (x ∷ xs) ≡ x ∷ xs → trimmed xs ≡ xs
+pub trimmed_tail : (x : Option Entry) (xs : Slots) → trimmed (x ∷ xs) ≡ x ∷ xs → trimmed xs ≡ xs
 trimmed_tail x xs h = put_tail x xs (trimmed xs) (sym (trimmed_put x xs) ∙ h)
 
 -- a filled list is not empty
@@ -278,3 +278,27 @@ cleared_slotwise g slots i d = record {
   last_filled = trimmed_twice (set slots i None);
   size = let less = cleared_size g slots i in let size = d.size in omega arith;
 }
+
+-- ---- the last slot
+
+last_from : (x : Option Entry) (xs : Slots) → trimmed (x ∷ xs) ≡ x ∷ xs → (e : Entry) × (slot_in (x ∷ xs) (length xs) ≡ Some e)
+last_from None [] h = absurd (let wrong : [] ≡ None ∷ [] = h in cc)
+last_from (Some e) [] h = (e, refl)
+last_from x (y ∷ ys) h = last_from y ys (trimmed_tail x (y ∷ ys) h)
+
+pub slot_inside : (slots : Slots) (i : ℕ) (e : Entry) → slot_in slots i ≡ Some e → i < length slots
+slot_inside [] i e h = absurd (none_some e h)
+slot_inside (x ∷ xs) zero e h = omega arith
+slot_inside (x ∷ xs) (suc i) e h = let rest = slot_inside xs i e h in omega arith
+
+-- clearing another slot than the last one leaves as many
+pub cleared_length : (slots : Slots) (i : ℕ) → trimmed slots ≡ slots → i < length slots → (length slots ≡ i + 1) ⊎ (length slots ≤ length (without_slot slots i))
+cleared_length [] i h low = absurd (omega arith)
+cleared_length (x ∷ xs) i h low =
+    let last = last_from x xs h in
+    ⊎_elim
+    (λ (same : length xs ≡ i). inl (omega arith))
+    (λ (other : length xs ≡ i → ⊥).
+    let more = slot_inside (without_slot (x ∷ xs) i) (length xs) last.0 (cleared_elsewhere (x ∷ xs) i (length xs) other ∙ last.1) in
+    inr (omega arith))
+    (cases_eq (length xs) i)

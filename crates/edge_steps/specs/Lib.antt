@@ -1,2 +1,4 @@
 pub mod Bytes
 pub mod Rules
+pub mod Room
+pub mod Session
