@@ -1,12 +1,12 @@
 -- The pointer nodes above the data blocks of a node, between two of them.
-use Rattle.std.proofs.Common.{◌≡◌, ℕ, zero, suc, ◌+◌, ◌-◌, ◌*◌, ◌/◌, ◌<◌, ◌≤◌, Bool, true, false, cond, List, [], ◌∷◌, ◌++◌, length, nat_lt, ◌⊎◌, inl, inr, ⊎_elim, refl, sym, ap, ◌∙◌, subst, arith}
-use Rattle.std.proofs.lemmas.Bool.{false≢true, cases_Bool, cases_lt, ltb-false, le-ltb}
+use Rattle.std.proofs.Common.{◌≡◌, ℕ, ◌-◌, ◌*◌, ◌/◌, ◌<◌, ◌≤◌, Bool, true, false, cond, [], ◌∷◌, length, nat_lt, inl, inr, ⊎_elim, refl, sym, ap, ◌∙◌, subst, arith}
+use Rattle.std.proofs.lemmas.Bool.{ltb-false, le-ltb}
 use Rattle.std.proofs.Math.Nat.{div-zero, le-div_iff_mul-le, eq-zero-or-pos}
 use Rattle.std.proofs.lemmas.Map.Made.{distinct_count-le}
-use Rattle.edge_base.specs.declared.form.Form.TheVariants.{Plain, Indirect, Double}
+use Rattle.edge_base.specs.declared.form.Form.TheVariants.{Indirect, Double}
 use Rattle.edge_base.specs.declared.geometry.Request.{Request}
 use Rattle.edge_base.specs.layout.Places.{pointers_of}
-use Rattle.edge_base.specs.tree.Positions.{Position, same_position, data_at, indirect_at, double_at, above_indirect, above_data, chain, count_of}
+use Rattle.edge_base.specs.tree.Positions.{Position, same_position, indirect_at, double_at, above_indirect, above_data, chain, count_of}
 use Rattle.edge_model.proofs.Members.{IsAmong}
 use Rattle.edge_model.proofs.Ways.{none_is_data}
 
@@ -90,9 +90,9 @@ up_number g x i q h = above_number g x i q (is_above g x i q h)
 
 short_double : (g : Request) (x j : ℕ) → length (above_indirect g x j) ≤ 1
 short_double g x j = elim (nat_lt j g.indirect) as (λ b. length (cond b [] (double_at x ((j - g.indirect) / pointers_of g) ∷ [])) ≤ 1) [
-      | true ↦ omega arith
-      | false ↦ omega arith
-    ]
+  | true ↦ omega arith
+  | false ↦ omega arith
+]
 
 short_above : (g : Request) (x i : ℕ) → length (above_data g x i) ≤ 2
 short_above g x i =

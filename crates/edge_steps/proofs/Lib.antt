@@ -18,3 +18,4 @@ pub mod ChainLaws
 pub mod ShrinkLaws
 pub mod SpaceLaws
 pub mod SessionLaws
+pub mod FreshLaws

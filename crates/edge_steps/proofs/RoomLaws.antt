@@ -1,12 +1,12 @@
 -- The trees of a session leave three blocks free.
-use Rattle.std.proofs.Common.{◌≡◌, ℕ, ◌+◌, ◌<◌, ◌≤◌, ◌||◌, Bool, true, false, cond, List, [], ◌∷◌, ◌++◌, length, nat_le, nat_eq, unwrap_or, ◌⊎◌, inl, inr, ⊎_elim, Option, Some, None, Result, Ok, Err, refl, sym, ap, ◌∙◌, subst, arith, eqb-true}
+use Rattle.std.proofs.Common.{◌≡◌, ℕ, ◌+◌, ◌≤◌, Bool, true, false, cond, List, [], ◌∷◌, ◌++◌, nat_eq, ◌⊎◌, inl, inr, ⊎_elim, Option, Some, None, Ok, refl, sym, ◌∙◌, subst, arith, eqb-true}
 use Rattle.std.specs.List.{All}
-use Rattle.std.proofs.lemmas.Bool.{false≢true, cases_Bool, leb-true, or_cases, or_left, or_right}
+use Rattle.std.proofs.lemmas.Bool.{cases_Bool, leb-true, or_left, or_right}
 use Rattle.std.proofs.lemmas.List.Elements.{All-nil, All-cons, All-append}
 use Rattle.edge_base.specs.declared.geometry.Request.{Request}
 use Rattle.edge_base.specs.layout.Places.{allocable_of}
-use Rattle.edge_base.specs.tree.Positions.{Position, has, count_of}
-use Rattle.edge_base.specs.tree.Nodes.{Node, file, directory}
+use Rattle.edge_base.specs.tree.Positions.{has, count_of}
+use Rattle.edge_base.specs.tree.Nodes.{file}
 use Rattle.edge_base.proofs.PositionLaws.{has-append, count_of-le_from_has, count_of-append-le}
 use Rattle.edge_model.specs.Asked.{Asked, Reply}
 use Rattle.edge_model.specs.Tree.{Tree, node_at, tree_positions, with_node}
@@ -15,11 +15,10 @@ use Rattle.edge_model.specs.Step.{plan, step}
 use Rattle.edge_model.specs.Files.{cut, content_of, present_of, is_marked, flags_for, resized}
 use Rattle.edge_model.specs.Names.{unnamed, has_one_link}
 use Rattle.edge_model.specs.Named.{cleared}
-use Rattle.edge_model.specs.Open.{emptied}
 use Rattle.edge_model.specs.Laws.{IsDirtyWithin, IsCleanCommitted, IsDirtySound}
 use Rattle.edge_model.specs.Walk.{Found}
 use Rattle.edge_model.proofs.Members.{IsAmong, among, is_had}
-use Rattle.edge_model.proofs.Ways.{blocks_of, IsOn, is_on, is_there}
+use Rattle.edge_model.proofs.Ways.{blocks_of, is_on, is_there}
 use Rattle.edge_model.proofs.SlotLaws.{marked_passes}
 use Rattle.edge_model.proofs.EditLaws.{Grows, cleared_grows, without_node, with_empty_file, flags_have}
 use Rattle.edge_model.proofs.DirtyLaws.{IsComplete, IsCompletePlan, edited_clean, point_within, point_clean}
@@ -84,10 +83,10 @@ changed_positions g z e within clean complete =
     let dirty = dirty_of g z e in
     let now = edited_clean g z (Some e) complete within clean in
     let one = count_of-le_from_has (tree_positions g e.tree) (tree_positions g z.committed ++ (dirty ++ z.dirty)) (λ p h.
-      has-append (tree_positions g z.committed) (dirty ++ z.dirty) p ∙ ⊎_elim
-      (λ is_dirty. or_right (has (tree_positions g z.committed) p) (has (dirty ++ z.dirty) p) (has-append dirty z.dirty p ∙ or_left (has dirty p) (has z.dirty p) is_dirty))
-      (λ is_clean. or_left (has (tree_positions g z.committed) p) (has (dirty ++ z.dirty) p) (now p h is_clean))
-      (cases_Bool (has dirty p))) in
+    has-append (tree_positions g z.committed) (dirty ++ z.dirty) p ∙ ⊎_elim
+    (λ is_dirty. or_right (has (tree_positions g z.committed) p) (has (dirty ++ z.dirty) p) (has-append dirty z.dirty p ∙ or_left (has dirty p) (has z.dirty p) is_dirty))
+    (λ is_clean. or_left (has (tree_positions g z.committed) p) (has (dirty ++ z.dirty) p) (now p h is_clean))
+    (cases_Bool (has dirty p))) in
     let two = count_of-append-le (tree_positions g z.committed) (dirty ++ z.dirty) in
     omega arith
 
@@ -143,7 +142,7 @@ outcome_room g s c sound room =
       fitting = λ p e was has_edit fit. ended_room g p.point (planned g s p) p.reply [] (planned_room g s s c p e was has_edit refl sound.within sound.clean fit room) none;
       full = λ p e was has_edit tight gains_none. record { state = room; points_too = none };
       fitting_then = λ p e was has_edit tight gains fit. ended_room g p.point (planned g (point_taken s) p) p.reply (s.tree ∷ [])
-        (planned_room g s (point_taken s) c p e was has_edit refl (point_within g s) (point_clean g s) fit taken) one;
+          (planned_room g s (point_taken s) c p e was has_edit refl (point_within g s) (point_clean g s) fit taken) one;
       full_then = λ p e was has_edit tight gains still. record { state = taken; points_too = one };
     })
 

@@ -1,12 +1,11 @@
 -- All rules of a session's state, from the mounting on.
-use Rattle.std.proofs.Common.{◌≡◌, ℕ, ◌+◌, ◌≤◌, Bool, true, false, cond, List, [], ◌∷◌, Option, Some, None, refl, subst}
+use Rattle.std.proofs.Common.{Bool, true, false, cond, List, [], ◌∷◌, Option, Some, None}
 use Rattle.std.specs.List.{All, fold}
 use Rattle.std.proofs.lemmas.Bool.{false≢true}
 use Rattle.std.proofs.lemmas.List.Elements.{All-head, All-tail}
 use Rattle.edge_base.specs.declared.geometry.Request.{Request}
 use Rattle.edge_base.specs.layout.Places.{IsGeometry}
 use Rattle.edge_model.specs.Asked.{Asked}
-use Rattle.edge_model.specs.Laws.{IsDirtySound}
 use Rattle.edge_model.specs.Rules.{IsTree}
 use Rattle.edge_model.specs.Run.{Run, run_of, opening, next_line, closing_state}
 use Rattle.edge_model.specs.State.{State, first_state, point_taken, closes_with_point}
@@ -14,8 +13,7 @@ use Rattle.edge_model.specs.Step.{step}
 use Rattle.edge_model.specs.Tree.{Tree}
 use Rattle.edge_model.proofs.CompleteLaws.{step_sound, point_sound}
 use Rattle.edge_steps.specs.Bytes.{IsOfBytes, IsLineOfBytes}
-use Rattle.edge_steps.specs.Rules.{HasTrees}
-use Rattle.edge_steps.specs.Room.{LeavesRoom, HasRoom}
+use Rattle.edge_steps.specs.Room.{LeavesRoom}
 use Rattle.edge_steps.specs.Session.{IsSession}
 use Rattle.edge_steps.proofs.TreeLaws.{step_trees, point_trees, first_trees}
 use Rattle.edge_steps.proofs.RoomLaws.{step_room, point_room}

@@ -1,28 +1,27 @@
 -- The changes of commands that only free blocks touch positions of one chain alone.
-use Rattle.std.proofs.Common.{◌≡◌, ℕ, zero, suc, ◌+◌, ◌-◌, ◌*◌, ◌/◌, ◌%◌, ◌<◌, ◌≤◌, ◌==◌, ◌&&◌, ◌||◌, not, Bool, true, false, cond, List, [], ◌∷◌, ◌++◌, length, map, filter, nat_le, nat_lt, nat_eq, is_some, unwrap_or, ◌⊎◌, inl, inr, ⊎_elim, Option, Some, None, Result, Ok, Err, refl, sym, ap, ◌∙◌, subst, arith, eqb-true}
+use Rattle.std.proofs.Common.{◌≡◌, ℕ, ◌+◌, ◌-◌, ◌/◌, ◌%◌, ◌<◌, ◌≤◌, ◌==◌, ◌&&◌, ◌||◌, not, Bool, true, false, cond, List, [], ◌∷◌, ◌++◌, length, map, filter, nat_le, nat_lt, ◌⊎◌, inl, inr, ⊎_elim, Option, Some, None, refl, sym, ap, ◌∙◌, subst, arith}
 use Rattle.std.specs.List.{range_with_len}
-use Rattle.std.proofs.lemmas.Bool.{false≢true, cases_eq, cases_lt, cases_Bool, and_parts, leb-true, ltb-true, lt-ltb, le-leb, or_left, or_right, or_cases, eqb-false, not-true}
+use Rattle.std.proofs.lemmas.Bool.{cases_lt, and_parts, leb-true, ltb-true, or_left, or_right, or_cases, eqb-false, not-true}
 use Rattle.std.proofs.lemmas.List.FromFn.{length-map-range_with_len}
 use Rattle.std.proofs.Math.Nat.{le-div_iff_mul-le, div-lt_iff_lt-mul}
 use Rattle.edge_base.specs.declared.geometry.Request.{Request}
-use Rattle.edge_base.specs.layout.Places.{IsGeometry, allocable_of}
-use Rattle.edge_base.specs.tree.Positions.{Position, data_at, ancestors, all_ancestors, above_data, chain, has, count_of, touched, dirty_after}
+use Rattle.edge_base.specs.tree.Positions.{Position, data_at, ancestors, all_ancestors, above_data, chain, has, count_of, touched}
 use Rattle.edge_base.specs.tree.Slots.{Entry, Slots, pieces, slots_in_block, slot_blocks}
-use Rattle.edge_base.specs.tree.Nodes.{Node, file, directory, marked_from, indices_of}
-use Rattle.edge_base.specs.tree.NodeRules.{IsNode, IsFile, IsDirectory}
+use Rattle.edge_base.specs.tree.Nodes.{Node, file, marked_from, indices_of}
+use Rattle.edge_base.specs.tree.NodeRules.{IsDirectory}
 use Rattle.edge_base.proofs.PositionLaws.{has-append, count_of-le_from_has, count_of-append-le}
-use Rattle.edge_model.specs.Tree.{Tree, node_at, is_directory, slots_at, tree_positions, with_node, data_positions}
+use Rattle.edge_model.specs.Tree.{Tree, node_at, is_directory, slots_at, tree_positions, data_positions}
 use Rattle.edge_model.specs.Walk.{Found}
 use Rattle.edge_model.specs.State.{State, Edit, dirty_of}
 use Rattle.edge_model.specs.Named.{without_slot, cleared, clear_writes, clear_removes, slot_position}
 use Rattle.edge_model.specs.Files.{cut, cut_block, past_end, content_of, present_of, is_marked, flags_for, resized}
 use Rattle.edge_model.specs.Names.{unnamed}
 use Rattle.edge_model.specs.Open.{emptied}
-use Rattle.edge_model.proofs.Members.{IsAmong, among, is_had, among_append, among_left, among_right, from_filter, from_flat_map, from_range}
-use Rattle.edge_model.proofs.Ways.{blocks_of, IsOn, is_on}
+use Rattle.edge_model.proofs.Members.{IsAmong, among, is_had, among_append, from_filter, from_flat_map, from_range}
+use Rattle.edge_model.proofs.Ways.{blocks_of, is_on}
 use Rattle.edge_model.proofs.SlotLaws.{piece_starts, is_marked_in}
-use Rattle.edge_steps.proofs.SlotLaws.{slot_in, none_some, some_same, cleared_length}
-use Rattle.edge_steps.proofs.NodeLaws.{node_set, cleared_set, slots_now, SlotsSet}
+use Rattle.edge_steps.proofs.SlotLaws.{slot_in, cleared_length}
+use Rattle.edge_steps.proofs.NodeLaws.{node_set, cleared_set}
 use Rattle.edge_steps.proofs.ChainLaws.{div_mono, chain_between, chain_number, up_number, short_chain}
 
 -- ---- what a change touches
@@ -51,9 +50,9 @@ pub few_dirty : (g : Request) (s : State) (e : Edit) → IsOneChain g e → coun
 few_dirty g s e one =
     let line = chain g one.number one.index in
     let all = count_of-le_from_has (dirty_of g s e ++ s.dirty) (line ++ s.dirty) (λ p h. has-append line s.dirty p ∙ ⊎_elim
-      (λ now. by_filter p (from_filter (has (tree_positions g e.tree)) (s.dirty ++ touched g (has s.dirty) e.writes e.removes) p (among (dirty_of g s e) p now)))
-      (λ old. or_right (has line p) (has s.dirty p) old)
-      (or_cases (has (dirty_of g s e) p) (has s.dirty p) (sym (has-append (dirty_of g s e) s.dirty p) ∙ h))) in
+    (λ now. by_filter p (from_filter (has (tree_positions g e.tree)) (s.dirty ++ touched g (has s.dirty) e.writes e.removes) p (among (dirty_of g s e) p now)))
+    (λ old. or_right (has line p) (has s.dirty p) old)
+    (or_cases (has (dirty_of g s e) p) (has s.dirty p) (sym (has-append (dirty_of g s e) s.dirty p) ∙ h))) in
     let parts = count_of-append-le line s.dirty in
     let few = short_chain g one.number one.index in
     omega arith
@@ -181,8 +180,10 @@ name_chain g d slots i entry e some rules there low writes removes few = ⊎_eli
   where
     left : ℕ
     left = slot_blocks g (without_slot slots i)
+
     old : ℕ
     old = slot_blocks g slots
+
     is_write : (r : Position) → IsAmong e.writes r → (nat_lt (i / slots_in_block g) (slot_blocks g (without_slot slots i)) ≡ true) × (r ≡ slot_position g d i)
     is_write r w = by_test (nat_lt (i / slots_in_block g) (slot_blocks g (without_slot slots i))) r (subst (λ ps. IsAmong ps r) writes w)
       where
@@ -190,6 +191,7 @@ name_chain g d slots i entry e some rules there low writes removes few = ⊎_eli
         by_test true r (inl same) = (refl, same)
         by_test true r (inr k) = absurd k
         by_test false r k = absurd k
+
     by_fewer : left < old → (q : Position) → has (tree_positions g e.tree) q ≡ true → IsTouched g e q → IsAmong (chain g d (left - 1)) q
     by_fewer fewer q here (written w) = absurd (let one = ltb-true (i / slots_in_block g) left (is_write q w).0 in let two = cut_off g slots i entry some rules there low fewer in omega arith)
     by_fewer fewer q here (above r (inl w) up) = absurd (let one = ltb-true (i / slots_in_block g) left (is_write r w).0 in let two = cut_off g slots i entry some rules there low fewer in omega arith)
@@ -200,6 +202,7 @@ name_chain g d slots i entry e some rules there low writes removes few = ⊎_eli
         inr (removed_above g e.tree d left j.0 q few past.0 here (subst (λ p. IsAmong (ancestors g p) q) j.1 up)))
         (λ never. absurd (never q here up))
         (removes r removed)
+
     by_same : old ≤ left → (q : Position) → has (tree_positions g e.tree) q ≡ true → IsTouched g e q → IsAmong (chain g d (i / slots_in_block g)) q
     by_same same q here (written w) = inl (is_write q w).1
     by_same same q here (above r (inl w) up) = inr (subst (λ p. IsAmong (ancestors g p) q) (is_write r w).1 up)
@@ -225,10 +228,10 @@ unnamed_chain g t d found entry true some kind rules there low other =
     let own = node_set (cleared t d found.slot) found.number None in
     name_chain g d (slots_at t d) found.slot entry e some rules there low refl
     (λ r removed. ⊎_elim
-      (λ cut. inl cut)
-      (λ dropped. let j = from_map found.number (indices_of g (node_at t found.number)) r dropped in
-      inr (λ q here up. let on = there_on g e.tree found.number j.0 q here (subst (λ p. IsAmong (ancestors g p) q) j.1 up) in no_block g e.tree found.number None on.0 own.here refl on.1))
-      (among_append (clear_removes g d (slots_at t d) found.slot) (data_positions g t found.number) r removed))
+    (λ cut. inl cut)
+    (λ dropped. let j = from_map found.number (indices_of g (node_at t found.number)) r dropped in
+    inr (λ q here up. let on = there_on g e.tree found.number j.0 q here (subst (λ p. IsAmong (ancestors g p) q) j.1 up) in no_block g e.tree found.number None on.0 own.here refl on.1))
+    (among_append (clear_removes g d (slots_at t d) found.slot) (data_positions g t found.number) r removed))
     (λ j h. cleared_few g t d found.slot j kind (subst (λ o. IsAmong (blocks_of g o) j) (own.others d (λ same. other (sym same))) h))
 unnamed_chain g t d found entry false some kind rules there low other =
     name_chain g d (slots_at t d) found.slot entry (unnamed g t d found false) some rules there low refl (λ r removed. inl removed) (λ j h. cleared_few g t d found.slot j kind h)

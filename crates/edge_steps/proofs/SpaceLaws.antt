@@ -1,5 +1,5 @@
 -- With the event `full` in the mask a command that only frees blocks is never refused for want of room.
-use Rattle.std.proofs.Common.{◌≡◌, ◌≢◌, ℕ, zero, suc, ◌+◌, ◌<◌, ◌≤◌, ◌&&◌, ◌||◌, not, Bool, true, false, cond, List, [], ◌∷◌, ◌++◌, length, nat_le, nat_lt, is_some, ◌⊎◌, inl, inr, ⊎_elim, Option, Some, None, Result, Ok, Err, refl, sym, ap, ◌∙◌, subst, arith}
+use Rattle.std.proofs.Common.{◌≡◌, ℕ, ◌+◌, ◌≤◌, not, Bool, true, false, cond, List, [], ◌∷◌, ◌++◌, length, nat_lt, ⊎_elim, Option, Some, None, Result, Ok, Err, refl, sym, ap, ◌∙◌, subst, arith}
 use Rattle.std.proofs.lemmas.Bool.{false≢true, leb-false, le-leb, ltb-false, and_cases}
 use Rattle.edge_base.specs.declared.geometry.Request.{Request}
 use Rattle.edge_base.specs.declared.refusal.Refusal.{Refusal}
@@ -7,8 +7,8 @@ use Rattle.edge_base.specs.declared.refusal.Refusal.TheVariants as refusal
 use Rattle.edge_base.specs.declared.refusal.Refusal.TheVariants.{NoSpace}
 use Rattle.edge_base.specs.commands.Refusals.{◌>>=◌, refuse_if, or_refuse}
 use Rattle.edge_base.specs.commands.Events as event
-use Rattle.edge_base.specs.commands.Descriptors.{Descriptor, descriptor_at, is_full, is_open}
-use Rattle.edge_base.specs.commands.Paths.{names_of, names_in, is_invalid, is_too_long}
+use Rattle.edge_base.specs.commands.Descriptors.{descriptor_at, is_full, is_open}
+use Rattle.edge_base.specs.commands.Paths.{names_of, is_invalid, is_too_long}
 use Rattle.edge_base.specs.layout.Places.{IsGeometry, allocable_of, max_size_of}
 use Rattle.edge_base.specs.tree.Positions.{count_of}
 use Rattle.edge_model.specs.declared.command.OpenFlags.{OpenFlags}
@@ -17,19 +17,19 @@ use Rattle.edge_model.specs.Tree.{Tree, node_at, is_directory, slots_at, tree_po
 use Rattle.edge_model.specs.Walk.{Spot, top, within, Found, at_spot, spot_of, walk, walk_from, is_top, find_name, found_number}
 use Rattle.edge_model.specs.State.{State, Plan, Edit, Outcome, point_taken, planned, ended, fits, gains_by_point, in_use, dirty_of}
 use Rattle.edge_model.specs.Step.{plan, step}
-use Rattle.edge_model.specs.Files.{plan_truncate, cut, content_of}
+use Rattle.edge_model.specs.Files.{plan_truncate, content_of}
 use Rattle.edge_model.specs.Open.{open_at, file_at, writable_at, plan_open, are_bad_flags, open_spot, open_there, open_plan}
 use Rattle.edge_model.specs.Names.{plan_unlink, plan_remove_dir, unlink_at, unnamed, has_one_link, is_busy, is_empty}
-use Rattle.edge_model.proofs.Plans.{Gives, gives_ok, gives_after, gives_each, ok_is, err_is_not_ok}
+use Rattle.edge_model.proofs.Plans.{Gives, gives_ok, gives_after, gives_each, err_is_not_ok}
 use Rattle.edge_model.proofs.Changes.{passes, is_some_of, not_false}
 use Rattle.edge_model.proofs.Outcomes.{each_outcome}
 use Rattle.edge_model.proofs.WalkLaws.{in_directory}
 use Rattle.edge_steps.specs.Rules.{HasTrees}
-use Rattle.edge_steps.specs.Room.{LeavesRoom, HasRoom, OnlyFrees}
+use Rattle.edge_steps.specs.Room.{LeavesRoom, OnlyFrees}
 use Rattle.edge_steps.proofs.SlotLaws.{none_some, slot_inside}
 use Rattle.edge_steps.proofs.CountLaws.{slot_at}
 use Rattle.edge_steps.proofs.NodeLaws.{base_of, directory_rules}
-use Rattle.edge_steps.proofs.WalkLaws.{IsFound, is_found}
+use Rattle.edge_steps.proofs.WalkLaws.{is_found}
 use Rattle.edge_steps.proofs.PlanLaws.{some_bytes, found_there, writable_place}
 use Rattle.edge_steps.proofs.NameLaws.{is_leaf, after_names}
 use Rattle.edge_steps.proofs.RenamePlans.{some_slots}
@@ -183,7 +183,7 @@ unlink_at_frees g s path (within d name) found is has at there empty =
     record {
       nothing = by_links (has_one_link g s.tree found.number);
       one_chain = unnamed_chain g s.tree d found f.entry (has_one_link g s.tree found.number) (some_slots g is) kind (directory_rules g s.tree d (base_of g s.tree has.tree) kind) f.there
-        (slot_inside (slots_at s.tree d) found.slot f.entry f.there) (λ same. none_some f.entry (sym (leaf found.slot) ∙ ap (λ y. slot_at s.tree y found.slot) same ∙ f.there));
+          (slot_inside (slots_at s.tree d) found.slot f.entry f.there) (λ same. none_some f.entry (sym (leaf found.slot) ∙ ap (λ y. slot_at s.tree y found.slot) same ∙ f.there));
     }
   where
     by_links : (last : Bool) → (unnamed g s.tree d found last).reserve ≡ 0

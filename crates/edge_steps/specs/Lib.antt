@@ -2,3 +2,4 @@ pub mod Bytes
 pub mod Rules
 pub mod Room
 pub mod Session
+pub mod Fresh

@@ -1,5 +1,5 @@
 -- The room that the trees of a session leave, and the commands that only free blocks.
-use Rattle.std.specs.Prelude.{◌≡◌, ◌≤◌, ℕ, ◌+◌, List, length, Some, Ok}
+use Rattle.std.specs.Prelude.{◌≡◌, ◌≤◌, ◌+◌, length, Some, Ok}
 use Rattle.edge_base.specs.declared.geometry.Request.{Request}
 use Rattle.edge_base.specs.layout.Places.{allocable_of}
 use Rattle.edge_base.specs.commands.Descriptors.{Descriptor, descriptor_at}

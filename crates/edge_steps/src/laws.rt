@@ -1,20 +1,21 @@
-ghost use Rattle.std.specs.Prelude.{◌≡◌, ◌≢◌, ◌≤◌, ◌+◌, ◌++◌, true, List, All, Ok, Err, Option, Some};
+ghost use Rattle.std.specs.Prelude.{◌≡◌, ◌≢◌, ◌≤◌, ◌+◌, ◌++◌, true, nat_le, List, All, Ok, Err, Option, Some};
 ghost use Rattle.edge_base.specs.declared.geometry.Request.{Request};
 ghost use Rattle.edge_base.specs.declared.refusal.Refusal.TheVariants.{NoSpace};
 ghost use Rattle.edge_base.specs.commands.Events.{has_event, full};
-ghost use Rattle.edge_base.specs.layout.Places.{IsGeometry};
+ghost use Rattle.edge_base.specs.layout.Places.{IsGeometry, allocable_of};
 ghost use Rattle.edge_base.specs.tree.Positions.{count_of};
 ghost use Rattle.edge_model.specs.Asked.{Asked};
-ghost use Rattle.edge_model.specs.Laws.{IsDirtySound};
+ghost use Rattle.edge_model.specs.Laws.{IsDirtySound, IsDirtyUpwards};
 ghost use Rattle.edge_model.specs.Rules.{IsTree};
 ghost use Rattle.edge_model.specs.Run.{run_of, closing_state, closed};
-ghost use Rattle.edge_model.specs.State.{State, Plan, Edit, first_state, dirty_of};
+ghost use Rattle.edge_model.specs.State.{State, Plan, Edit, first_state, dirty_of, fits, in_use};
 ghost use Rattle.edge_model.specs.Step.{step, plan};
 ghost use Rattle.edge_model.specs.Tree.{Tree};
 ghost use Rattle.edge_steps.specs.Bytes.{IsOfBytes, IsLineOfBytes};
 ghost use Rattle.edge_steps.specs.Rules.{HasTrees};
 ghost use Rattle.edge_steps.specs.Room.{LeavesRoom, HasRoom, OnlyFrees};
 ghost use Rattle.edge_steps.specs.Session.{IsSession};
+ghost use Rattle.edge_steps.specs.Fresh.{fresh_of};
 
 /// A step of a state whose two trees are trees, and whose descriptors name nodes of their kind that
 /// are there, leads to such a state; and the tree of each point that it takes is one.
@@ -75,4 +76,12 @@ pub fn freeing_finds_room()
     ensures { (g : Request) (s : State) (command : Asked) → IsGeometry g
         → HasTrees g s → LeavesRoom g s.tree → has_event s.mask full ≡ true
         → OnlyFrees g s command → (step g s command).answer ≢ Err NoSpace }
+{}
+
+/// Where the ancestors of dirty positions are dirty, a change fits exactly where the blocks in use, its
+/// fresh positions and its reserve are at most the allocable blocks.
+pub fn fits_by_fresh_positions()
+    ensures { (g : Request) (s : State) (e : Edit) → IsDirtyUpwards g s
+        → fits g s e ≡ nat_le
+        (in_use g s.committed s.dirty + count_of (fresh_of g s e) + e.reserve) (allocable_of g) }
 {}

@@ -5,6 +5,6 @@
 mod laws;
 
 pub use laws::{
-    freeing_dirties_three, freeing_finds_room, runs_keep_trees, sessions_keep_their_rules,
-    steps_keep_trees, steps_leave_room,
+    fits_by_fresh_positions, freeing_dirties_three, freeing_finds_room, runs_keep_trees,
+    sessions_keep_their_rules, steps_keep_trees, steps_leave_room,
 };
