@@ -19,3 +19,5 @@ pub mod ShrinkLaws
 pub mod SpaceLaws
 pub mod SessionLaws
 pub mod FreshLaws
+pub mod ListLaws
+pub mod ListPlans

@@ -109,7 +109,7 @@ good_spot g t path d name bytes at = let r = spot_names g t path (within d name)
 
 -- ---- a node is made
 
-new_is : (g : Request) (t : Tree) (d : ℕ) (name : List ℕ) (node : Node) (new : NewName) → new_name g t (within d name) node ≡ Ok new
+pub new_is : (g : Request) (t : Tree) (d : ℕ) (name : List ℕ) (node : Node) (new : NewName) → new_name g t (within d name) node ≡ Ok new
     → (slot : ℕ) × (free_number g t ≡ Some new.number) × (new_slot g t d ≡ Ok slot) × (new.edit.tree ≡ with_node (placed t d slot (record { name = name; number = new.number })) new.number (Some node))
 new_is g t d name node new h =
     let r = after_part (or_refuse (free_number g t) refusal.NoInodes) _ new h in

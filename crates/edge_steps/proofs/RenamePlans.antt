@@ -92,7 +92,7 @@ old_place g t d name found n is tree kind good low high other at =
 Nothing : ℕ → Type 0
 Nothing n = ⊥
 
-nothing_lost : (g : Request) (t left : Tree) (df : ℕ) (found : Found) (dt st : ℕ) (old entry : Entry) → IsLeft g t left df found dt st old entry → IsLost g left left (λ _. ⊥)
+pub nothing_lost : (g : Request) (t left : Tree) (df : ℕ) (found : Found) (dt st : ℕ) (old entry : Entry) → IsLeft g t left df found dt st old entry → IsLost g left left (λ _. ⊥)
 nothing_lost g t left df found dt st old entry l = record {
   slots = record { same = λ x j. refl };
   base = l.base;
@@ -104,7 +104,7 @@ nothing_lost g t left df found dt st old entry l = record {
 }
 
 -- r is dropped, which has no names in it
-one_lost : (g : Request) (t left : Tree) (df : ℕ) (found : Found) (dt st : ℕ) (old entry : Entry) (r : ℕ) → IsLeft g t left df found dt st old entry → (r ≡ 2 → ⊥) → (r ≡ df → ⊥) → (r ≡ dt → ⊥) → ((j : ℕ) → slot_at t r j ≡ None) → IsLost g left (with_node left r None) (λ n. n ≡ r)
+pub one_lost : (g : Request) (t left : Tree) (df : ℕ) (found : Found) (dt st : ℕ) (old entry : Entry) (r : ℕ) → IsLeft g t left df found dt st old entry → (r ≡ 2 → ⊥) → (r ≡ df → ⊥) → (r ≡ dt → ⊥) → ((j : ℕ) → slot_at t r j ≡ None) → IsLost g left (with_node left r None) (λ n. n ≡ r)
 one_lost g t left df found dt st old entry r l low not_from not_to leaf =
     let w = with_node left r None in
     let own = node_set left r None in

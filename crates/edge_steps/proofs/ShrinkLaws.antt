@@ -65,7 +65,7 @@ few_dirty g s e one =
 
 -- ---- listed positions of a node
 
-from_map : (x : ℕ) (is : List ℕ) (q : Position) → IsAmong (map (data_at x) is) q → (i : ℕ) × (q ≡ data_at x i) × IsAmong is i
+pub from_map : (x : ℕ) (is : List ℕ) (q : Position) → IsAmong (map (data_at x) is) q → (i : ℕ) × (q ≡ data_at x i) × IsAmong is i
 from_map x [] q h = absurd h
 from_map x (i ∷ is) q (inl e) = (i, e, inl refl)
 from_map x (i ∷ is) q (inr h) = let r = from_map x is q h in (r.0, r.1, inr r.2)
@@ -86,7 +86,7 @@ removed_above g t x k j q few from there up =
 
 -- ---- a file emptied
 
-no_block : (g : Request) (t : Tree) (n : ℕ) (what : Option Node) (i : ℕ) → t n ≡ what → blocks_of g what ≡ [] → IsAmong (blocks_of g (t n)) i → ⊥
+pub no_block : (g : Request) (t : Tree) (n : ℕ) (what : Option Node) (i : ℕ) → t n ≡ what → blocks_of g what ≡ [] → IsAmong (blocks_of g (t n)) i → ⊥
 no_block g t n what i is none h = subst (λ xs. IsAmong xs i) none (subst (λ o. IsAmong (blocks_of g o) i) is h)
 
 pub emptied_chain : (g : Request) (t : Tree) (n : ℕ) → IsOneChain g (emptied g t n)
@@ -106,14 +106,14 @@ emptied_chain g t n = record {
 
 -- ---- a file cut
 
-last_piece : (n size : ℕ) → 0 < n → (size % n == 0) ≡ false → pieces n size - 1 ≡ size / n
+pub last_piece : (n size : ℕ) → 0 < n → (size % n == 0) ≡ false → pieces n size - 1 ≡ size / n
 last_piece n size some uneven =
     let odd : size % n ≡ 0 → ⊥ = eqb-false (size % n) 0 uneven in
     let low : size / n + 1 ≤ (size + (n - 1)) / n = (le-div_iff_mul-le some).1 (omega arith) in
     let high : (size + (n - 1)) / n < size / n + 2 = (div-lt_iff_lt-mul some).1 (omega arith) in
     omega arith
 
-cut_few : (g : Request) (t : Tree) (n size i : ℕ) → IsAmong (blocks_of g ((cut g t n size).tree n)) i → i < pieces g.block_size size
+pub cut_few : (g : Request) (t : Tree) (n size i : ℕ) → IsAmong (blocks_of g ((cut g t n size).tree n)) i → i < pieces g.block_size size
 cut_few g t n size i h =
     let flags = flags_for g size (is_marked (present_of (node_at t n))) in
     let here = (node_set t n (Some (file (resized (content_of (node_at t n)) size) flags))).here in
@@ -121,7 +121,7 @@ cut_few g t n size i h =
     let many = length-map-range_with_len (is_marked (present_of (node_at t n))) 0 (pieces g.block_size size) in
     omega arith
 
-in_test : (b : Bool) (k i : ℕ) → IsAmong (cond b (k ∷ []) []) i → (b ≡ true) × (i ≡ k)
+pub in_test : (b : Bool) (k i : ℕ) → IsAmong (cond b (k ∷ []) []) i → (b ≡ true) × (i ≡ k)
 in_test true k i (inl e) = (refl, e)
 in_test true k i (inr h) = absurd h
 in_test false k i h = absurd h
@@ -214,7 +214,7 @@ name_chain g d slots i entry e some rules there low writes removes few = ⊎_eli
         (λ never. absurd (never q here up))
         (removes r removed)
 
-cleared_few : (g : Request) (t : Tree) (d i j : ℕ) → is_directory t d ≡ true → IsAmong (blocks_of g (cleared t d i d)) j → j < slot_blocks g (without_slot (slots_at t d) i)
+pub cleared_few : (g : Request) (t : Tree) (d i j : ℕ) → is_directory t d ≡ true → IsAmong (blocks_of g (cleared t d i d)) j → j < slot_blocks g (without_slot (slots_at t d) i)
 cleared_few g t d i j kind h =
     let set = cleared_set t d i kind in
     let r = from_range 0 (slot_blocks g (without_slot (slots_at t d) i)) j (subst (λ o. IsAmong (blocks_of g o) j) set.set.here h) in

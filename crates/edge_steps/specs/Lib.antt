@@ -3,3 +3,4 @@ pub mod Rules
 pub mod Room
 pub mod Session
 pub mod Fresh
+pub mod Listed

@@ -5,6 +5,7 @@ ghost use Rattle.edge_base.specs.commands.Events.{has_event, full};
 ghost use Rattle.edge_base.specs.layout.Places.{IsGeometry, allocable_of};
 ghost use Rattle.edge_base.specs.tree.Positions.{count_of};
 ghost use Rattle.edge_model.specs.Asked.{Asked};
+ghost use Rattle.edge_model.specs.Asking.{IsInLimits};
 ghost use Rattle.edge_model.specs.Laws.{IsDirtySound, IsDirtyUpwards};
 ghost use Rattle.edge_model.specs.Rules.{IsTree};
 ghost use Rattle.edge_model.specs.Run.{run_of, closing_state, closed};
@@ -16,6 +17,7 @@ ghost use Rattle.edge_steps.specs.Rules.{HasTrees};
 ghost use Rattle.edge_steps.specs.Room.{LeavesRoom, HasRoom, OnlyFrees};
 ghost use Rattle.edge_steps.specs.Session.{IsSession};
 ghost use Rattle.edge_steps.specs.Fresh.{fresh_of};
+ghost use Rattle.edge_steps.specs.Listed.{IsListed};
 
 /// A step of a state whose two trees are trees, and whose descriptors name nodes of their kind that
 /// are there, leads to such a state; and the tree of each point that it takes is one.
@@ -84,4 +86,12 @@ pub fn fits_by_fresh_positions()
     ensures { (g : Request) (s : State) (e : Edit) → IsDirtyUpwards g s
         → fits g s e ≡ nat_le
         (in_use g s.committed s.dirty + count_of (fresh_of g s e) + e.reserve) (allocable_of g) }
+{}
+
+/// The data blocks after a change are those that it writes, and those that were there and that it does
+/// not remove.
+pub fn changes_list_their_blocks()
+    ensures { (g : Request) (s : State) (command : Asked) (p : Plan) (e : Edit)
+        → IsGeometry g → IsOfBytes command → IsInLimits command → HasTrees g s
+        → plan g s command ≡ Ok p → p.edit ≡ Some e → IsListed g s.tree e }
 {}

@@ -5,6 +5,6 @@
 mod laws;
 
 pub use laws::{
-    fits_by_fresh_positions, freeing_dirties_three, freeing_finds_room, runs_keep_trees,
-    sessions_keep_their_rules, steps_keep_trees, steps_leave_room,
+    changes_list_their_blocks, fits_by_fresh_positions, freeing_dirties_three, freeing_finds_room,
+    runs_keep_trees, sessions_keep_their_rules, steps_keep_trees, steps_leave_room,
 };
