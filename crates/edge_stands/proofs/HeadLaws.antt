@@ -31,7 +31,7 @@ not_none (Some x) h = refl
 some_not_none : {A : Type 0} (o : Option A) → is_some o ≡ true → o ≡ None → ⊥
 some_not_none o h none = false≢true (sym (ap is_some none) ∙ h)
 
-in_numbers : (g : Request) (n : ℕ) → is_number g n ≡ true → IsAmong (numbers_of g) n
+pub in_numbers : (g : Request) (n : ℕ) → is_number g n ≡ true → IsAmong (numbers_of g) n
 in_numbers g n h = let both = and_parts _ _ h in let low = leb-true 2 n both.0 in let high = ltb-true n (2 + g.inodes) both.1 in among_range 2 g.inodes n low high
 
 -- the numbers of the tree are numbers

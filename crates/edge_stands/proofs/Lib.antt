@@ -1,3 +1,4 @@
 pub mod NodeLaws
 pub mod HeadLaws
 pub mod SpaceLaws
+pub mod FreshLaws

@@ -1,17 +1,21 @@
-ghost use Rattle.std.specs.Prelude.{◌≡◌, ◌↔◌, ◌≤◌, ◌+◌, ℕ, true, List, [], Option, Some, None};
+ghost use Rattle.std.specs.Prelude.{◌≡◌, ◌↔◌, ◌≤◌, ◌+◌, ℕ, true, List, [], Ok, Option, Some, None};
 ghost use Rattle.edge_base.specs.declared.geometry.Request.{Request};
-ghost use Rattle.edge_base.specs.layout.Places.{allocable_of};
+ghost use Rattle.edge_base.specs.layout.Places.{IsGeometry, allocable_of};
 ghost use Rattle.edge_base.specs.tree.Nodes.{Node, indices_of};
 ghost use Rattle.edge_base.specs.tree.Positions.{Position, count_of};
 ghost use Rattle.edge_store.specs.Effects.{HeadSet, InodeMade, InodeDropped};
+ghost use Rattle.edge_store.specs.Fresh.{fresh_count};
 ghost use Rattle.edge_store.specs.View.{View, IsView, free_now, free_after, free_inodes};
-ghost use Rattle.edge_model.specs.Asked.{room};
+ghost use Rattle.edge_model.specs.Asked.{Asked, room};
+ghost use Rattle.edge_model.specs.Asking.{IsInLimits};
 ghost use Rattle.edge_model.specs.Laws.{IsDirtyUpwards};
-ghost use Rattle.edge_model.specs.State.{State, Edit, fits};
-ghost use Rattle.edge_model.specs.Step.{room_of};
+ghost use Rattle.edge_model.specs.State.{State, Plan, Edit, fits};
+ghost use Rattle.edge_model.specs.Step.{plan, room_of};
 ghost use Rattle.edge_model.specs.Tree.{Tree, links_of, with_node};
 ghost use Rattle.edge_image.specs.Opens.{StandsFor};
+ghost use Rattle.edge_steps.specs.Bytes.{IsOfBytes};
 ghost use Rattle.edge_steps.specs.Fresh.{fresh_of};
+ghost use Rattle.edge_steps.specs.Rules.{HasTrees};
 ghost use Rattle.edge_stands.specs.Session.{StandForState};
 ghost use Rattle.edge_stands.specs.Stands.{StandsWith, NodeChanged, HasSameBlocks, IsTied, IsTiedAt, head_with, with_links};
 
@@ -82,4 +86,17 @@ pub fn fits_by_free_blocks()
         → StandForState g committed working s → IsDirtyUpwards g s
         → (fits g s e ≡ true)
         ↔ (count_of (fresh_of g s e) + e.reserve ≤ free_now g committed working) }
+{}
+
+/// The fresh positions that are counted over the two views are the same, and so a change of a command
+/// fits exactly where their count and the reserve are at most the blocks free now.
+pub fn fits_by_fresh_count()
+    ensures { (g : Request) (committed working : View) (s : State) (command : Asked)
+        (p : Plan) (e : Edit)
+        → IsGeometry g → IsOfBytes command → IsInLimits command
+        → HasTrees g s → IsDirtyUpwards g s → StandForState g committed working s
+        → plan g s command ≡ Ok p → p.edit ≡ Some e
+        → (fits g s e ≡ true)
+        ↔ (fresh_count g committed working e.writes e.removes + e.reserve
+        ≤ free_now g committed working) }
 {}

@@ -5,6 +5,6 @@
 mod laws;
 
 pub use laws::{
-    changes_at_one_node, dropped_inodes, fits_by_free_blocks, made_inodes, set_heads,
-    space_is_what_is_free, standing_with_links,
+    changes_at_one_node, dropped_inodes, fits_by_free_blocks, fits_by_fresh_count, made_inodes,
+    set_heads, space_is_what_is_free, standing_with_links,
 };
