@@ -55,9 +55,12 @@ pub record NodeChanged (g : Request) (v w : View) (t : Tree) (n : ℕ) (node : O
   pub inodes : (x : ℕ) → x ≢ n → w.inodes x ≡ v.inodes x
   pub blocks : (b : ℕ) → is_used v b ≡ true → ((q : Position) → IsOwn g t n q → block_at g v q ≢ b) → w.blocks b ≡ v.blocks b
   -- a block of number n was not used, or was its own
-  pub taken : (p : Position) → IsOwn g (with_node t n node) n p → (is_used v (block_at g w p) ≡ false) ⊎ ((q : Position) × IsOwn g t n q × (block_at g v q ≡ block_at g w p))
+  pub taken : (p : Position) → IsOwn g (with_node t n node) n p
+      → (is_used v (block_at g w p) ≡ false) ⊎ ((q : Position) × IsOwn g t n q × (block_at g v q ≡ block_at g w p))
   -- a used block is one of number n, or was used and not by number n
-  pub left : (b : ℕ) → is_used w b ≡ true → ((p : Position) × IsOwn g (with_node t n node) n p × (block_at g w p ≡ b)) ⊎ ((is_used v b ≡ true) × ((q : Position) → IsOwn g t n q → block_at g v q ≢ b))
+  pub left : (b : ℕ) → is_used w b ≡ true
+      → ((p : Position) × IsOwn g (with_node t n node) n p × (block_at g w p ≡ b))
+      ⊎ ((is_used v b ≡ true) × ((q : Position) → IsOwn g t n q → block_at g v q ≢ b))
 
 -- two nodes with the same data blocks, as those that differ in their parent alone
 pub record HasSameBlocks (g : Request) (old new : Node) : Type 0 where
