@@ -25,9 +25,9 @@ pub fn standing_with_links()
         → StandsFor g v t ↔ StandsWith g v t (links_of g t) }
 {}
 
-/// Where a call has changed one number's node and left the others, the view stands for the tree with
-/// that node, if it stood for the one before; so also where the number has got its first node or has
-/// lost it. The dirty positions stay those whose block is new, if they are at that number.
+/// Where a call has changed one number's node and left the others, the view stands for the tree
+/// with that node, if it stood for the one before; so also where the number has got its first node
+/// or has lost it. The dirty positions stay those whose block is new, if they are at that number.
 pub fn changes_at_one_node()
     ensures stands { (g : Request) (v w : View) (t : Tree) (links : ℕ → ℕ)
         (n : ℕ) (node : Option Node) (now : ℕ)
@@ -88,8 +88,8 @@ pub fn fits_by_free_blocks()
         ↔ (count_of (fresh_of g s e) + e.reserve ≤ free_now g committed working) }
 {}
 
-/// The fresh positions that are counted over the two views are the same, and so a change of a command
-/// fits exactly where their count and the reserve are at most the blocks free now.
+/// The fresh positions that are counted over the two views are the same, and so a change of a
+/// command fits exactly where their count and the reserve are at most the blocks free now.
 pub fn fits_by_fresh_count()
     ensures { (g : Request) (committed working : View) (s : State) (command : Asked)
         (p : Plan) (e : Edit)

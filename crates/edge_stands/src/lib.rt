@@ -1,5 +1,5 @@
-//! Laws of views that stand for trees: what a change at one node leaves, and what the room of a store is
-//! in terms of a session's state. The functions have no effects.
+//! Laws of views that stand for trees: what a change at one node leaves, and what the room of a
+//! store is in terms of a session's state. The functions have no effects.
 #![tactic(auto)]
 
 mod laws;

@@ -43,8 +43,8 @@ pub fn runs_keep_trees()
         → IsTree g t → All (IsTree g) (closed (run_of g t lines)).trees }
 {}
 
-/// Where both trees have at most the allocable blocks less three as positions, they still have after
-/// a step, and so has the tree of each point that it takes.
+/// Where both trees have at most the allocable blocks less three as positions, they still have
+/// after a step, and so has the tree of each point that it takes.
 pub fn steps_leave_room()
     ensures step { (g : Request) (s : State) (command : Asked)
         → IsDirtySound g s → HasRoom g s → HasRoom g (step g s command).state }
@@ -80,16 +80,16 @@ pub fn freeing_finds_room()
         → OnlyFrees g s command → (step g s command).answer ≢ Err NoSpace }
 {}
 
-/// Where the ancestors of dirty positions are dirty, a change fits exactly where the blocks in use, its
-/// fresh positions and its reserve are at most the allocable blocks.
+/// Where the ancestors of dirty positions are dirty, a change fits exactly where the blocks in use,
+/// its fresh positions and its reserve are at most the allocable blocks.
 pub fn fits_by_fresh_positions()
     ensures { (g : Request) (s : State) (e : Edit) → IsDirtyUpwards g s
         → fits g s e ≡ nat_le
         (in_use g s.committed s.dirty + count_of (fresh_of g s e) + e.reserve) (allocable_of g) }
 {}
 
-/// The data blocks after a change are those that it writes, and those that were there and that it does
-/// not remove.
+/// The data blocks after a change are those that it writes, and those that were there and that it
+/// does not remove.
 pub fn changes_list_their_blocks()
     ensures { (g : Request) (s : State) (command : Asked) (p : Plan) (e : Edit)
         → IsGeometry g → IsOfBytes command → IsInLimits command → HasTrees g s

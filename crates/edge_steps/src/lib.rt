@@ -1,5 +1,5 @@
-//! Laws of the steps of a session: each step of a tree leads to a tree that leaves room. The functions
-//! have no effects; `specs/` has the rules of a session's state.
+//! Laws of the steps of a session: each step of a tree leads to a tree that leaves room. The
+//! functions have no effects; `specs/` has the rules of a session's state.
 #![tactic(auto)]
 
 mod laws;
