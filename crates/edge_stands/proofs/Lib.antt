@@ -1,0 +1,4 @@
+pub mod NodeLaws
+pub mod HeadLaws
+pub mod SpaceLaws
+pub mod FreshLaws
