@@ -1,22 +1,21 @@
 -- What the blocks on a way made new are for the data block of an index.
-use Rattle.std.proofs.Common.{◌≡◌, ◌≢◌, ℕ, ◌+◌, ◌<◌, ◌≤◌, true, List, refl, sym, ap, ◌∙◌, subst, arith}
-use Rattle.std.specs.Prelude.{Result, Ok, Err, IfOk, OnOk, is_ok, slice_index}
+use Rattle.std.proofs.Common.{◌≡◌, ℕ, ◌+◌, ◌<◌, ◌≤◌, true, refl, sym, ap, ◌∙◌, subst}
+use Rattle.std.specs.Prelude.{Result, Ok, Err, IfOk, OnOk, is_ok}
 use Rattle.edge_base.specs.declared.form.Form.{Form}
 use Rattle.edge_base.specs.declared.form.Form.TheVariants.{Plain, Indirect, Double}
 use Rattle.edge_base.specs.declared.geometry.Request.{Request}
 use Rattle.edge_base.specs.declared.way.Way.{Way}
 use Rattle.edge_base.specs.declared.way.Way.TheVariants as way
-use Rattle.edge_base.specs.layout.Places.{IsGeometry, IsWithinNodes, entries_of, pointers_of, max_blocks_of, way_of}
+use Rattle.edge_base.specs.layout.Places.{IsGeometry, entries_of, pointers_of, max_blocks_of, way_of}
 use Rattle.edge_store.specs.Damages.{form_of_entry}
 use Rattle.edge_store.specs.Placed.{entry_at, pointer_at}
 use Rattle.edge_store.specs.State.{StoreState, Told}
-use Rattle.edge_store.specs.View.{View, IsView, entries_of_inode, free_now, is_whole}
-use Rattle.edge_moves.specs.Renewal.{cost, EntryRenewed, PointerRenewed, UnderRenewed, WayRenewed, direct, single, double, SameHeads}
-use Rattle.edge_moves.proofs.SpentLaws.{way_heads, whole_by_head, third_room}
+use Rattle.edge_store.specs.View.{View, IsView, free_now}
+use Rattle.edge_moves.specs.Renewal.{cost, EntryRenewed, PointerRenewed, UnderRenewed, WayRenewed, direct, single, double}
+use Rattle.edge_moves.proofs.SpentLaws.{way_heads, third_room}
 use Rattle.edge_moves.proofs.WritableLaws.{way_done}
 use Rattle.edge_tree.specs.Answers.{IsReadable}
-use Rattle.edge_tree.specs.Own.{RenewsEntry, RenewsUnder, RenewsWay, KeepsHeads, MakesWritable, RoomForWay, RoomForChain}
-use Rattle.edge_tree.proofs.OwnLaws.{if_ok_map}
+use Rattle.edge_tree.specs.Own.{RenewsWay, KeepsHeads, MakesWritable, RoomForWay, RoomForChain}
 use Rattle.edge_tree.proofs.WayForms.{LeadsTo, way_leads, fresh_by_way}
 
 -- ---- ways
@@ -48,13 +47,6 @@ double_room g c v l n e outer place node view form low_outer low u room =
 pub single_room : (s : StoreState) (n e place : ℕ) → form_of_entry s.origin.request e ≡ Indirect → RoomForWay s n (way.Single e place)
     → cost s.committed s.working (entry_at s.working n e) + cost s.committed s.working (pointer_at s.working (form_of_entry s.origin.request e) (entry_at s.working n e) place) ≤ free_now s.origin.request s.committed s.working
 single_room s n e place form room = subst (λ (f : Form). cost s.committed s.working (entry_at s.working n e) + cost s.committed s.working (pointer_at s.working f (entry_at s.working n e) place) ≤ free_now s.origin.request s.committed s.working) (sym form) room
-
--- the first two blocks of a double-indirect way
-pub outer_room : (s : StoreState) (n e outer place : ℕ) → form_of_entry s.origin.request e ≡ Double → RoomForWay s n (way.Double e outer place)
-    → cost s.committed s.working (entry_at s.working n e) + cost s.committed s.working (pointer_at s.working (form_of_entry s.origin.request e) (entry_at s.working n e) outer) ≤ free_now s.origin.request s.committed s.working
-outer_room s n e outer place form room =
-    let a : cost s.committed s.working (entry_at s.working n e) + cost s.committed s.working (pointer_at s.working Double (entry_at s.working n e) outer) ≤ free_now s.origin.request s.committed s.working = omega arith in
-    subst (λ (f : Form). cost s.committed s.working (entry_at s.working n e) + cost s.committed s.working (pointer_at s.working f (entry_at s.working n e) outer) ≤ free_now s.origin.request s.committed s.working) (sym form) a
 
 -- room for a chain is room for the way
 pub chain_room : (s : StoreState) (n i : ℕ) (on : Way) → i < max_blocks_of s.origin.request → way_of s.origin.request i ≡ on → RoomForChain s n i → RoomForWay s n on

@@ -1,8 +1,7 @@
 -- What a call meets is no tangled node.
-use Rattle.std.proofs.Common.{◌≡◌, ◌≢◌, ℕ, ◌==◌, Bool, true, false, cond, Option, Some, None, sym, ap, ◌∙◌, subst}
+use Rattle.std.proofs.Common.{◌≡◌, ◌≢◌, ℕ, ◌==◌, Bool, true, false, cond, Some, None, ap, ◌∙◌}
 use Rattle.std.specs.Prelude.{Result, Ok, Err}
 use Rattle.edge_base.specs.declared.damage.Damage.{Damage}
-use Rattle.edge_base.specs.declared.damage.DamageKind.{DamageKind}
 use Rattle.edge_base.specs.declared.damage.DamageKind.TheVariants as kinds
 use Rattle.edge_base.specs.declared.form.Form.{Form}
 use Rattle.edge_base.specs.declared.geometry.Request.{Request}
@@ -11,7 +10,7 @@ use Rattle.edge_base.specs.declared.node.NodeFault.TheVariants as faults
 use Rattle.edge_store.specs.Calls.{Meets, TellsNoTangle}
 use Rattle.edge_store.specs.Damages.{damage_in, damage_at, damage_of_inode}
 use Rattle.edge_store.specs.State.{StoreState}
-use Rattle.edge_store.specs.View.{View, IsView, IsInodeDamage, unreadable, two_places, Content, bytes, pointers, unused, content_at, kind_of_fault}
+use Rattle.edge_store.specs.View.{IsView, IsInodeDamage, unreadable, two_places, Content, bytes, pointers, unused, content_at, kind_of_fault}
 use Rattle.edge_store.specs.declared.fault.StoreFault.{StoreFault}
 use Rattle.edge_store.proofs.ViewLaws.{broken_of}
 

@@ -1,6 +1,6 @@
 -- What calls of a pointer tree answer where the views are told. s is a store as a call begins; old and new are it and the store after the
 -- call.
-use Rattle.std.specs.Prelude.{◌≡◌, ◌≢◌, ℕ, true, OnOk, Result}
+use Rattle.std.specs.Prelude.{◌≡◌, ◌≢◌, ℕ, true, Result}
 use Rattle.edge_base.specs.declared.form.Form.{Form}
 use Rattle.edge_store.specs.declared.fault.StoreFault.{StoreFault}
 use Rattle.edge_store.specs.declared.spot.Spot.{Spot}

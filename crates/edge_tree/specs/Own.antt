@@ -36,7 +36,8 @@ RoomForPointer s at i = RoomForBlock s (pointer_at s.working at.form at.block i)
 -- the block of an entry, and the one in a place of it
 abbrev pub RoomForUnder : StoreState → ℕ → ℕ → ℕ → Type 0
 RoomForUnder s n e place =
-    cost s.committed s.working (entry_at s.working n e) + cost s.committed s.working (pointer_at s.working (form_of_entry s.origin.request e) (entry_at s.working n e) place)
+    cost s.committed s.working (entry_at s.working n e)
+    + cost s.committed s.working (pointer_at s.working (form_of_entry s.origin.request e) (entry_at s.working n e) place)
     ≤ free_now s.origin.request s.committed s.working
 
 -- the blocks on a way
@@ -105,5 +106,6 @@ LeadsTo s at i b = Told s → (is_spot s.working at.form at.owner at.block ≡ t
 
 -- Data block i of node n is block b, to be written, if the node had the shape of a node.
 abbrev pub MakesWritable : StoreState → StoreState → ℕ → ℕ → ℕ → Type 0
-MakesWritable old new n i b = Told old → (indices : List ℕ) → HasPlaces old.origin.request old.working n indices → IsOnce old.origin.request old.working n indices
+MakesWritable old new n i b = Told old → (indices : List ℕ)
+    → HasPlaces old.origin.request old.working n indices → IsOnce old.origin.request old.working n indices
     → IsMadeWritable old.origin.request old.committed old.working new.working n i indices × (data_block old.origin.request new.working n i ≡ b)

@@ -1,4 +1,4 @@
-ghost use Rattle.std.specs.Prelude.{◌≡◌, ◌≢◌, ◌<◌, ◌≤◌, ◌+◌, ℕ, IfOk, OnOk};
+ghost use Rattle.std.specs.Prelude.{◌≡◌, ◌≢◌, ◌<◌, ◌≤◌, ◌+◌, IfOk, OnOk};
 ghost use Rattle.edge_base.specs.declared.form.Form.TheVariants.{Plain, Indirect, Double as DoubleForm};
 ghost use Rattle.edge_base.specs.declared.way.Way.TheVariants.{Single, Double};
 ghost use Rattle.edge_base.specs.layout.Places.{entries_of, pointers_of, max_blocks_of};
@@ -7,7 +7,7 @@ ghost use Rattle.edge_store.specs.Calls.{Called, KeepsPoint, Reads};
 ghost use Rattle.edge_store.specs.Damages.{form_of_entry, form_under};
 ghost use Rattle.edge_store.specs.State.{IsLive, IsNumber, IsLink, HasInode};
 ghost use Rattle.edge_store.specs.Told.{IsEntryOf, MeetsNone};
-ghost use Rattle.edge_tree.specs.Answers.{TellsWhatIs, NeverTangled, NeverOnSound, NeverOnShaped, IsLinkedTo, IsLinkedSpot, IsReadable, IsSpotOf, IsPointerAt, IsDataBlock};
+ghost use Rattle.edge_tree.specs.Answers.{TellsWhatIs, NeverTangled, NeverOnSound, NeverOnShaped, IsLinkedTo, IsLinkedSpot, IsPointerAt, IsDataBlock};
 ghost use Rattle.edge_tree.specs.Chains.{IsOnWay, IsCostOf, IsCostOfWay, IsFreshOnChain};
 
 use crate::link::{entry_link, pointer_link};

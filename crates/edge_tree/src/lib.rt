@@ -4,6 +4,8 @@
 mod chain;
 mod link;
 mod own;
+#[cfg(test)]
+mod tests;
 mod walk;
 mod writable;
 

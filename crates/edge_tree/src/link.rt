@@ -1,4 +1,4 @@
-ghost use Rattle.std.specs.Prelude.{◌≡◌, ◌≢◌, ◌<◌, ◌≤◌, ◌+◌, ℕ, IfOk, OnOk};
+ghost use Rattle.std.specs.Prelude.{◌≡◌, ◌≢◌, ◌<◌, IfOk, OnOk};
 ghost use Rattle.edge_base.specs.declared.form.Form.TheVariants.{Plain};
 ghost use Rattle.edge_base.specs.layout.Places.{entries_of, pointers_of};
 ghost use Rattle.edge_base.specs.outside.Below.{SameBelow};

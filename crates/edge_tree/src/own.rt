@@ -1,4 +1,4 @@
-ghost use Rattle.std.specs.Prelude.{◌≡◌, ◌≢◌, ◌<◌, ◌≤◌, ◌+◌, ℕ, IfOk, OnOk, Err};
+ghost use Rattle.std.specs.Prelude.{◌≡◌, ◌≢◌, ◌<◌, IfOk, OnOk, Err};
 ghost use Rattle.edge_base.specs.declared.form.Form.TheVariants.{Plain, Indirect, Double};
 ghost use Rattle.edge_base.specs.layout.Places.{entries_of, pointers_of};
 ghost use Rattle.edge_store.specs.Calls.{Called, KeepsPoint, KeepsPlaces, KeepsPlacesBut};
@@ -53,7 +53,8 @@ fn renew<S: Store>(s: &mut S, from: Spot) -> Result<u32, StoreFault>
     ensures point { KeepsPoint (S.state s.old) (S.state s.new) }
     ensures places { OnOk result (KeepsPlaces (S.state s.old) (S.state s.new)) }
     ensures damage { TellsWhatIs (S.state s.old) (S.state s.new) result }
-    ensures untangled { UntangledIf (S.state s.old) (RoomForBlock (S.state s.old) from.block) result }
+    ensures untangled { UntangledIf (S.state s.old)
+        (RoomForBlock (S.state s.old) from.block) result }
     ensures undamaged { UndamagedIf (S.state s.old)
         (IsSpotSound (S.state s.old) from) (RoomForBlock (S.state s.old) from.block) result }
     ensures block { IfOk result (IsAllocable (S.state s.old)) }

@@ -1,4 +1,4 @@
-ghost use Rattle.std.specs.Prelude.{◌≡◌, ◌≢◌, ◌<◌, ◌≤◌, ◌+◌, ℕ, IfOk, OnOk};
+ghost use Rattle.std.specs.Prelude.{◌≡◌, ◌<◌, IfOk, OnOk};
 ghost use Rattle.edge_base.specs.declared.form.Form.TheVariants.{Plain, Indirect, Double as DoubleForm};
 ghost use Rattle.edge_base.specs.declared.way.Way.TheVariants.{Single, Double};
 ghost use Rattle.edge_base.specs.layout.Places.{entries_of, pointers_of, max_blocks_of};

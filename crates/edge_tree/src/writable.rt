@@ -1,4 +1,4 @@
-ghost use Rattle.std.specs.Prelude.{◌≡◌, ◌<◌, ◌≤◌, ◌+◌, ℕ, IfOk, OnOk};
+ghost use Rattle.std.specs.Prelude.{◌≡◌, ◌<◌, IfOk, OnOk};
 ghost use Rattle.edge_base.specs.declared.form.Form.TheVariants.{Double as DoubleForm};
 ghost use Rattle.edge_base.specs.declared.way.Way.TheVariants.{Double};
 ghost use Rattle.edge_base.specs.layout.Places.{entries_of, pointers_of, max_blocks_of};
@@ -28,8 +28,8 @@ fn own_below<S: Store>(s: &mut S, n: u32, i: u32, outer: u32, place: u32) -> Res
     ensures damage { TellsWhatIs (S.state s.old) (S.state s.new) result }
     ensures untangled { UntangledIf (S.state s.old)
         (RoomForWay (S.state s.old) n (Double i outer place)) result }
-    ensures undamaged { UndamagedIf (S.state s.old)
-        (IsNodeTidy (S.state s.old) n) (RoomForWay (S.state s.old) n (Double i outer place)) result }
+    ensures undamaged { UndamagedIf (S.state s.old) (IsNodeTidy (S.state s.old) n)
+        (RoomForWay (S.state s.old) n (Double i outer place)) result }
     ensures block { IfOk result (IsAllocable (S.state s.old)) }
     ensures was_readable { OnOk result (IsReadable (S.state s.old) n) }
     ensures readable { OnOk result (IsReadable (S.state s.new) n) }

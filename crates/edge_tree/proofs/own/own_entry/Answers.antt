@@ -1,7 +1,6 @@
-use Rattle.std.proofs.Common.{◌≡◌, ◌≢◌, ◌∙◌, ◌<◌, ◌≤◌, sym, ap, subst, true}
+use Rattle.std.proofs.Common.{◌≡◌, ◌≢◌, ◌∙◌, ◌<◌, ◌≤◌, sym, ap, true}
 use Rattle.std.proofs.lemmas.Result.{err_from_is_err_and}
 use Rattle.std.specs.Prelude.{Err}
-use Rattle.edge_base.specs.declared.form.Form.{Form}
 use Rattle.edge_base.specs.layout.Places.{entries_of}
 use Rattle.edge_store.specs.Damages.{form_of_entry, IsLinked}
 use Rattle.edge_store.specs.State.{Told}

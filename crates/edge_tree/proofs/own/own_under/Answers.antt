@@ -1,14 +1,13 @@
-use Rattle.std.proofs.Common.{◌≡◌, ◌≢◌, ◌∙◌, ◌<◌, ◌≤◌, ℕ, sym, ap, subst, true}
+use Rattle.std.proofs.Common.{◌≡◌, ◌≢◌, ◌∙◌, ℕ, sym, ap, subst}
 use Rattle.std.specs.Prelude.{Option, slice_index}
 use Rattle.edge_base.specs.declared.form.Form.{Form}
 use Rattle.edge_base.specs.outside.Below.{Origin}
 use Rattle.edge_base.specs.declared.form.Form.TheVariants.{Plain}
-use Rattle.edge_base.specs.layout.Places.{entries_of, pointers_of}
-use Rattle.edge_store.specs.Damages.{form_of_entry, form_under, IsLinked, by_place}
-use Rattle.edge_store.specs.Placed.{entry_at, pointer_at}
+use Rattle.edge_store.specs.Damages.{form_of_entry, IsLinked, by_place}
+use Rattle.edge_store.specs.Placed.{entry_at}
 use Rattle.edge_store.specs.State.{Told}
-use Rattle.edge_store.specs.View.{View, Inode, IsView, entries_of_inode, free_now}
-use Rattle.edge_moves.specs.Renewal.{cost, EntryRenewed, PointerRenewed}
+use Rattle.edge_store.specs.View.{Inode, IsView, entries_of_inode}
+use Rattle.edge_moves.specs.Renewal.{PointerRenewed}
 use Rattle.edge_moves.specs.Sound.{IsSound}
 use Rattle.edge_moves.proofs.ArriveLaws.{entry_arrives}
 use Rattle.edge_moves.proofs.SlotLaws.{entries_fit}

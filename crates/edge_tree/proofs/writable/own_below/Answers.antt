@@ -1,11 +1,11 @@
-use Rattle.std.proofs.Common.{◌≡◌, ◌∙◌, ap, sym, subst}
+use Rattle.std.proofs.Common.{◌∙◌, ap, sym, subst}
 use Rattle.edge_base.specs.outside.Below.{Origin}
 use Rattle.edge_store.specs.State.{Told}
 use Rattle.edge_store.specs.View.{IsView}
 use Rattle.edge_moves.specs.Sound.{IsSound}
 use Rattle.edge_moves.proofs.ArriveLaws.{under_sound}
 use Rattle.edge_moves.proofs.SlotLaws.{entries_fit}
-use Rattle.edge_tree.proofs.DoneLaws.{double_way, double_room, outer_room}
+use Rattle.edge_tree.proofs.DoneLaws.{double_way, double_room}
 use Rattle.edge_tree.proofs.OwnLaws.{if_ok_map}
 use Rattle.edge_tree.proofs.writable.own_below.Goals as goal
 
