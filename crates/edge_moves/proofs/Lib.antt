@@ -1,0 +1,12 @@
+pub mod SlotLaws
+pub mod RelinkLaws
+pub mod SelfLaws
+pub mod StepLaws
+pub mod SoFarLaws
+pub mod FactLaws
+pub mod RangeLaws
+pub mod OnWayLaws
+pub mod ArriveLaws
+pub mod WritableLaws
+pub mod SpentLaws
+pub mod LinkedLaws

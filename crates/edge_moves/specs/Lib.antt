@@ -1,0 +1,4 @@
+pub mod Sound
+pub mod Relinks
+pub mod Renewal
+pub mod Writable

@@ -1,0 +1,5 @@
+pub mod WayForms
+pub mod LinkLaws
+pub mod KindLaws
+pub mod OwnLaws
+pub mod DoneLaws

@@ -1,0 +1,15 @@
+//! Pointer trees over any store: where the data blocks of a node are, and blocks made writable.
+#![tactic(auto)]
+
+mod chain;
+mod link;
+mod own;
+#[cfg(test)]
+mod tests;
+mod walk;
+mod writable;
+
+pub use chain::{Chain, chain_of};
+pub use own::tangled;
+pub use walk::block_of;
+pub use writable::make_writable;
