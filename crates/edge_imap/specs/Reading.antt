@@ -63,7 +63,9 @@ module _ {D : Type 0} (g : Ghosts D) where
     pub later : g.faults old.disk ≤ g.faults new.disk
     pub passed : OnOk result (g.faults new.disk ≡ g.faults old.disk)
     pub device : result ≡ Err loads.Device → Rose (g.faults old.disk) (g.faults new.disk)
+    pub memory : result ≢ Err loads.Memory
     pub node : (i : ℕ) → result ≡ Err (loads.Node i) → i ≡ j
+    pub read : (i : ℕ) → result ≡ Err (loads.Node i) → g.faults new.disk ≡ g.faults old.disk
     pub spells_none : IsTrue (g.origin old.disk).shows → OnErr result ((result ≡ Err loads.Device) ⊎ (is_ok (imap_in request j content) ≡ false))
 
   -- the same of a load, which answers Node where a node spells none
@@ -71,6 +73,11 @@ module _ {D : Type 0} (g : Ghosts D) where
     pub later : g.faults old.disk ≤ g.faults new.disk
     pub passed : OnOk result (g.faults new.disk ≡ g.faults old.disk)
     pub device : result ≡ Err loads.Device → Rose (g.faults old.disk) (g.faults new.disk)
+    -- memory is taken before anything is read
+    pub memory : result ≡ Err loads.Memory → new ≡ old
+    -- each block was read, whatever the disk tells
+    pub read : (i : ℕ) → result ≡ Err (loads.Node i) → g.faults new.disk ≡ g.faults old.disk
+    pub in_range : (i : ℕ) → result ≡ Err (loads.Node i) → i < imap_nodes_of request
     pub node : (i : ℕ) → result ≡ Err (loads.Node i) → IsTrue (g.origin old.disk).shows → IsFirstBad request roots old i
 
   -- A bit of a node was changed. The node has its place that is not live in the last point, which alone was written.
