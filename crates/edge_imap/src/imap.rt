@@ -126,6 +126,9 @@ impl Imap {
             cache.old cache.new) }
         ensures inline { is_inline_of self.old.geometry ≡ true
             → (cache.new ≡ cache.old) × IsOk result }
+        ensures idle { IsTrue (D.origin cache.old.disk).shows
+            → working_bit self.old (content_in D.Disk cache.old) bit ≡ used
+            → (self.new ≡ self.old) × OnlyReads D.Disk cache.old cache.new }
         ensures unset { OnErr result (self.new ≡ self.old) }
         ensures fault { OnErr result (OnlyReads D.Disk cache.old cache.new) }
         ensures cause { TellsWhy D.Disk (IsNamed self.old) cache.old cache.new result }

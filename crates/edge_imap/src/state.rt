@@ -59,6 +59,10 @@ pub(crate) fn set_bit<D: Disk>(
         (bitmaps g.now committed.now working.old counts.old)
         (bitmaps g.now committed.now working.new counts.new) cache.old cache.new) }
     ensures inline { is_inline_of g.now ≡ true → (cache.new ≡ cache.old) × IsOk result }
+    ensures idle { IsTrue (D.origin cache.old.disk).shows
+        → bit_under g.now working.old (content_in D.Disk cache.old) change.bit ≡ change.used
+        → (working.new ≡ working.old) × (counts.new ≡ counts.old)
+        × OnlyReads D.Disk cache.old cache.new }
     ensures unset { OnErr result ((working.new ≡ working.old) × (counts.new ≡ counts.old)) }
     ensures fault { OnErr result (OnlyReads D.Disk cache.old cache.new) }
     ensures cause { TellsWhy D.Disk

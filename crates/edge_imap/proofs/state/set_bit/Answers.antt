@@ -9,11 +9,14 @@ use Rattle.edge_disk.specs.Disk.{Origin}
 use Rattle.edge_imap.specs.Bitmaps.{IsFit, IsLive, IsNode, IsTied, bitmaps, node_of, spare_place}
 use Rattle.edge_imap.proofs.BitLaws.{contents_same}
 use Rattle.edge_imap.proofs.CallLaws.{reads_same, reads_after, writes_none, writes_after, why_passed, why_after, shows_on}
-use Rattle.edge_imap.proofs.TieLaws.{on_err, same_flags, not_ok, tie_same, use_changes, has_already, was_live, tie_set, committed_kept, nodes_kept, nodes_changed, flag_other, node_inside}
+use Rattle.edge_imap.proofs.TieLaws.{on_err, same_flags, not_ok, tie_same, use_changes, has_already, not_self, was_live, tie_set, committed_kept, nodes_kept, nodes_changed, flag_other, node_inside}
 use Rattle.edge_imap.proofs.state.set_bit.Goals as goal
 
 pub returns-in_err-old-clause-inline : goal.returns-in_err-old-clause-inline
 returns-in_err-old-clause-inline g c = λ inline. absurd (not_ok c.bit_of.result _ c.in_err-old.was (c.bit_of.ensures.inline inline).1)
+
+pub returns-in_err-old-clause-idle : goal.returns-in_err-old-clause-idle
+returns-in_err-old-clause-idle g c = λ tells has. (refl, refl, c.bit_of.ensures.reads)
 
 pub returns-in_err-old-clause-unset : goal.returns-in_err-old-clause-unset
 returns-in_err-old-clause-unset g c = on_err c.from_residual.result (refl, refl)
@@ -34,6 +37,9 @@ bit_of-requires-2-clause-fits g c = subst (λ (o : Origin). IsFit c.args.g.now o
 
 pub returns-in_err-new-clause-inline : goal.returns-in_err-new-clause-inline
 returns-in_err-new-clause-inline g c = λ inline. absurd (not_ok c.bit_of-2.result _ c.in_err-new.was (c.bit_of-2.ensures.inline inline).1)
+
+pub returns-in_err-new-clause-idle : goal.returns-in_err-new-clause-idle
+returns-in_err-new-clause-idle g c = λ tells has. (refl, refl, reads_after g.D.Disk _ _ _ c.bit_of.ensures.reads c.bit_of-2.ensures.reads)
 
 pub returns-in_err-new-clause-unset : goal.returns-in_err-new-clause-unset
 returns-in_err-new-clause-unset g c = on_err c.from_residual-in_err-new.result (refl, refl)
@@ -69,6 +75,9 @@ returns-then-new-change-clause-sets g c =
       sequence_is = λ tells external far. absurd (far refl);
     }
 
+pub returns-then-new-change-clause-idle : goal.returns-then-new-change-clause-idle
+returns-then-new-change-clause-idle g c = λ tells has. (refl, refl, reads_after g.D.Disk _ _ _ c.bit_of.ensures.reads c.bit_of-2.ensures.reads)
+
 pub returns-then-new-change-clause-inline : goal.returns-then-new-change-clause-inline
 returns-then-new-change-clause-inline g c = λ inline. ((c.bit_of-2.ensures.inline inline).0 ∙ (c.bit_of.ensures.inline inline).0, refl)
 
@@ -83,6 +92,10 @@ turn_bit-requires-clause-fits g c = subst (λ (o : Origin). IsFit c.args.g.now o
 
 pub returns-in_err-turn_bit-clause-inline : goal.returns-in_err-turn_bit-clause-inline
 returns-in_err-turn_bit-clause-inline g c = λ inline. absurd (not_ok c.turn_bit.result _ c.in_err-turn_bit.was (c.turn_bit.ensures.inline inline).1)
+
+pub returns-in_err-turn_bit-clause-idle : goal.returns-in_err-turn_bit-clause-idle
+returns-in_err-turn_bit-clause-idle g c = λ tells has.
+    (c.in_err-turn_bit.ensures.unmoved, refl, reads_after g.D.Disk _ _ _ (reads_after g.D.Disk _ _ _ c.bit_of.ensures.reads c.bit_of-2.ensures.reads) c.in_err-turn_bit.ensures.fault)
 
 pub returns-in_err-turn_bit-clause-unset : goal.returns-in_err-turn_bit-clause-unset
 returns-in_err-turn_bit-clause-unset g c = on_err c.from_residual-in_err-turn_bit.result (c.in_err-turn_bit.ensures.unmoved, refl)
@@ -127,6 +140,17 @@ returns-clause-sets g c =
           ap (λ (b : ℕ). number_at 8 8 (new b)) (ap (imap_place_of geometry n) turns.place)
           ∙ turns.first (shows_on d c.args.cache.now mid reads.origin tells) (was_live (bit_in 0 c.turn_bit.new.working n) (bit_in 0 c.args.working.now n) (bit_in 0 c.args.committed.now n) far turns.place);
     }
+
+pub returns-clause-idle : goal.returns-clause-idle
+returns-clause-idle g c = λ tells has.
+    let d = g.D.Disk in
+    let geometry = c.args.g.now in
+    let old = content_in d c.args.cache.now in
+    let same : content_in d c.bit_of.new.cache ≡ old = λ z k. c.bit_of.ensures.reads.contents tells k z in
+    let had : bit_under geometry c.args.working.now old c.args.change.bit ≡ not c.args.change.used
+    = sym (c.in_ok-new.ensures.bit (shows_on d c.args.cache.now c.bit_of.new.cache c.bit_of.ensures.reads.origin tells) ∙ ap (λ (f : ℕ → List ℕ). bit_under geometry c.args.working.now f c.args.change.bit) same)
+    ∙ flag_other c.in_ok-new.new c.args.change.used c.if-new-change.false in
+    absurd (not_self c.args.change.used (sym has ∙ had))
 
 pub returns-clause-inline : goal.returns-clause-inline
 returns-clause-inline g c = λ inline. ((c.turn_bit.ensures.inline inline).0 ∙ (c.bit_of-2.ensures.inline inline).0 ∙ (c.bit_of.ensures.inline inline).0, refl)

@@ -1,8 +1,8 @@
-use Rattle.std.proofs.Common.{◌≡◌, ℕ, List, sym, subst, ◌∙◌, arith}
+use Rattle.std.proofs.Common.{◌≡◌, ℕ, List, sym, ap, subst, ◌∙◌, arith}
 use Rattle.std.proofs.lemmas.List.{with_items_is}
 use Rattle.std.specs.Prelude.{OnOk}
 use Rattle.edge_cache.specs.Calls.{content_in}
-use Rattle.edge_imap.specs.Bitmaps.{Bitmaps, bitmaps, IsNamed, IsTied}
+use Rattle.edge_imap.specs.Bitmaps.{Bitmaps, bitmaps, IsNamed, IsTied, working_bit}
 use Rattle.edge_imap.specs.Reading.{TellsWhy, Sets}
 use Rattle.edge_imap.proofs.TieLaws.{never_damaged, err_map}
 use Rattle.edge_imap.proofs.imap.Imap.set.Goals as goal
@@ -16,6 +16,14 @@ returns-clause-sets g c =
     subst (λ (l : List ℕ). sets c.args.self.now (bitmaps s.geometry s.committed.items l c.set_bit.new.counts)) (sym is)
     (subst (λ (l : List ℕ). sets c.args.self.now (bitmaps s.geometry l c.set_bit.new.working c.set_bit.new.counts)) c.deref.ensures.value
     (subst (λ (m : Bitmaps). sets m (bitmaps s.geometry c.deref.result.now c.set_bit.new.working c.set_bit.new.counts)) view c.set_bit.ensures.sets))
+
+pub returns-clause-idle : goal.returns-clause-idle
+returns-clause-idle g c = λ tells has.
+    let s = c.self.inside in
+    let is = with_items_is s.working c.set_bit.new.working (omega (arith, c.set_bit.auto.working, c.deref_mut.ensures.len)) in
+    let view : bitmaps s.geometry c.deref.result.now c.deref_mut.result.now s.counts ≡ c.args.self.now = (λ i. bitmaps s.geometry (c.deref.ensures.value i) (c.deref_mut.ensures.value i) s.counts) ∙ c.self.view_is in
+    let did = c.set_bit.ensures.idle tells (ap (λ (m : Bitmaps). working_bit m (content_in g.D.Disk c.args.cache.now) c.args.bit) view ∙ has) in
+    ((λ i. bitmaps s.geometry s.committed.items ((is ∙ did.0 ∙ c.deref_mut.ensures.value) i) (did.1 i)) ∙ c.self.view_is, did.2)
 
 pub returns-clause-unset : goal.returns-clause-unset
 returns-clause-unset g c =
