@@ -89,6 +89,9 @@ module _ {D : Type 0} (g : Ghosts D) where
     -- where it had not got its place before, it carries the sequence number
     pub first : IsTrue (g.origin old.disk).shows → bit_in 0 working_old (node_of request bit) ≡ bit_in 0 committed (node_of request bit)
         → number_at 8 8 (content_in g new (spare_place request committed (node_of request bit))) ≡ sequence
+    -- and where it had, the number that it carries stays
+    pub again : IsTrue (g.origin old.disk).shows → bit_in 0 working_old (node_of request bit) ≡ not (bit_in 0 committed (node_of request bit))
+        → number_at 8 8 (content_in g new (live_place request working_new (node_of request bit))) ≡ number_at 8 8 (content_in g old (live_place request working_old (node_of request bit)))
     pub bits : IsTrue (g.origin old.disk).shows → (i : ℕ) → bit_under request working_new (content_in g new) i
         ≡ (if i == bit then used else bit_under request working_old (content_in g old) i)
     pub node : IsTrue (g.origin old.disk).shows → IsNode request (node_of request bit) (content_in g old (live_place request working_old (node_of request bit)))
@@ -107,6 +110,11 @@ module _ {D : Type 0} (g : Ghosts D) where
     pub sequence_is : IsTrue (g.origin old.disk).shows → is_inline_of m_old.geometry ≡ false
         → bit_in 0 m_new.working (node_of m_old.geometry bit) ≢ bit_in 0 m_old.working (node_of m_old.geometry bit)
         → number_at 8 8 (content_in g new (live_place m_old.geometry m_new.working (node_of m_old.geometry bit))) ≡ sequence
+    -- and the number that it had, where it stays at its place
+    pub sequence_stays : IsTrue (g.origin old.disk).shows → is_inline_of m_old.geometry ≡ false
+        → bit_in 0 m_new.working (node_of m_old.geometry bit) ≡ bit_in 0 m_old.working (node_of m_old.geometry bit)
+        → number_at 8 8 (content_in g new (live_place m_old.geometry m_new.working (node_of m_old.geometry bit)))
+        ≡ number_at 8 8 (content_in g old (live_place m_old.geometry m_old.working (node_of m_old.geometry bit)))
 
 -- Of the first n bits of an imap node one has changed, and its check word holds. Its sequence number may differ.
 pub record ChangesBit (n at : ℕ) (used : Bool) (old new : List ℕ) : Type 0 where

@@ -50,6 +50,9 @@ fn change_bit<D: Disk>(
     ensures bits { IsTrue (D.origin cache.old.disk).shows → OnOk result
         (ChangesBit (8 * ((D.origin cache.old.disk).block_size - 16)) at used
         (content_in D.Disk cache.old block) (content_in D.Disk cache.new block)) }
+    ensures sequence { IsTrue (D.origin cache.old.disk).shows → OnOk result
+        (number_at 8 8 (content_in D.Disk cache.new block)
+        ≡ number_at 8 8 (content_in D.Disk cache.old block)) }
 {
     check_word(cache, block)?;
     let mut byte = [0u8; 1];
@@ -123,6 +126,10 @@ fn change_again<D: Disk>(
         (content_in D.Disk cache.old (live_place g.now working.now (node_of g.now change.bit)))
         → OnOk result (IsNode g.now (node_of g.now change.bit)
         (content_in D.Disk cache.new (live_place g.now working.now (node_of g.now change.bit)))) }
+    ensures sequence { IsTrue (D.origin cache.old.disk).shows → OnOk result (number_at 8 8
+        (content_in D.Disk cache.new (live_place g.now working.now (node_of g.now change.bit)))
+        ≡ number_at 8 8
+        (content_in D.Disk cache.old (live_place g.now working.now (node_of g.now change.bit)))) }
 {
     let block = live_block(g, working, node_of_bit(g, change.bit));
     change_bit(cache, block, change.bit % g.node_bits(), change.used)?;

@@ -1,5 +1,6 @@
 use Rattle.std.proofs.Common.{◌≡◌, ℕ, ◌*◌, ◌-◌, ◌%◌, refl, ap, subst, ◌∙◌, arith}
 use Rattle.edge_base.specs.layout.Bitmap.{live_place}
+use Rattle.edge_base.specs.layout.Bytes.{number_at}
 use Rattle.edge_base.specs.layout.Sizes.{node_bits}
 use Rattle.edge_cache.specs.Calls.{content_in}
 use Rattle.edge_imap.specs.Bitmaps.{IsLive, node_of}
@@ -57,3 +58,8 @@ returns-clause-node g c = λ tells was.
     let change = change_at _ (node_bits geometry.block_size) _ (c.args.change.bit % node_bits geometry.block_size) c.live_block-block.result _ c.live_block-block.result _ c.args.change.used old new
     (ap (λ (n : ℕ). 8 * (n - 16)) c.requires.fits.size) (ap (λ (n : ℕ). c.args.change.bit % n) c.node_bits.ensures.count) place place (c.in_ok-change_bit.ensures.bits tells) in
     node_with_bit geometry (node_of geometry c.args.change.bit) (c.args.change.bit % node_bits geometry.block_size) c.args.change.used _ _ (bit_within geometry c.args.change.bit long c.requires.bit) change was
+
+pub returns-clause-sequence : goal.returns-clause-sequence
+returns-clause-sequence g c = λ tells.
+    let place = c.live_block-block.ensures.place ∙ ap (live_place c.args.g.now c.args.working.now) c.node_of_bit.ensures.node in
+    subst (λ (b : ℕ). number_at 8 8 (content_in g.D.Disk c.change_bit.new.cache b) ≡ number_at 8 8 (content_in g.D.Disk c.args.cache.now b)) place (c.in_ok-change_bit.ensures.sequence tells)

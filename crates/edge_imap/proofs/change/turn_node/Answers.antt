@@ -41,6 +41,7 @@ returns-then-second-get-clause-turns g c =
       place = did.turned ∙ ap not same;
       places = did.stays;
       first = λ tells e. ap (λ (b : ℕ). number_at 8 8 (content_in g.D.Disk c.change_first.new.cache b)) (sym spare) ∙ did.sequence tells;
+      again = λ tells e. absurd (not_self (bit_in 0 c.args.committed.now n) (sym same ∙ e));
       bits = did.bits;
       node = λ tells was. subst (λ (b : ℕ). IsNode geometry n (content_in g.D.Disk c.change_first.new.cache b)) (ap (imap_place_of geometry n) (sym did.turned)) (did.node tells was);
     }
@@ -73,6 +74,7 @@ returns-clause-turns g c =
       place = other;
       places = λ j far. refl;
       first = λ tells e. absurd (not_self (bit_in 0 c.args.committed.now n) (sym e ∙ other));
+      again = λ tells e. did.sequence tells;
       bits = did.bits;
       node = did.node;
     }

@@ -73,6 +73,7 @@ returns-then-new-change-clause-sets g c =
       writes = λ external. writes_none d _ _ _ reads;
       places = λ external j far. refl;
       sequence_is = λ tells external far. absurd (far refl);
+      sequence_stays = λ tells external e. ap (number_at 8 8) (reads.contents tells (live_place geometry c.args.working.now (node_of geometry c.args.change.bit)));
     }
 
 pub returns-then-new-change-clause-idle : goal.returns-then-new-change-clause-idle
@@ -139,6 +140,9 @@ returns-clause-sets g c =
           let n = node_of geometry c.args.change.bit in
           ap (λ (b : ℕ). number_at 8 8 (new b)) (ap (imap_place_of geometry n) turns.place)
           ∙ turns.first (shows_on d c.args.cache.now mid reads.origin tells) (was_live (bit_in 0 c.turn_bit.new.working n) (bit_in 0 c.args.working.now n) (bit_in 0 c.args.committed.now n) far turns.place);
+      sequence_stays = λ tells external e.
+          let turns = did.turns external in
+          turns.again (shows_on d c.args.cache.now mid reads.origin tells) (sym e ∙ turns.place) ∙ ap (number_at 8 8) (reads.contents tells (live_place geometry c.args.working.now (node_of geometry c.args.change.bit)));
     }
 
 pub returns-clause-idle : goal.returns-clause-idle
