@@ -3,7 +3,7 @@ ghost use Rattle.edge_base.specs.layout.Bitmap.{live_place};
 ghost use Rattle.edge_base.specs.layout.Bytes.{bit_in, number_at};
 ghost use Rattle.edge_base.specs.layout.Places.{is_inline_of, table_start_of};
 ghost use Rattle.edge_cache.specs.Calls.{content_in, KeepsContents};
-ghost use Rattle.edge_imap.specs.Bitmaps.{Bitmaps, IsRootBits, IsFit, IsLive, IsTied, ChangesUse, bits_of, first_bit, committed_bit, working_bit, committed_use, working_use, is_free_bit, state_of, IsNamed};
+ghost use Rattle.edge_imap.specs.Bitmaps.{Bitmaps, IsRootBits, IsFit, IsTied, ChangesUse, bits_of, first_bit, committed_bit, working_bit, committed_use, working_use, is_free_bit, state_of, IsNamed, IsNamedFor};
 ghost use Rattle.edge_imap.specs.Reading.{OnlyReads, OnlyWrites, TellsWhy, TellsLoad, NeverDamaged, Sets};
 ghost use Rattle.edge_imap.specs.Search.{Finds, IsWithin};
 
@@ -100,7 +100,7 @@ impl Imap {
             (committed_bit self.old (content_in D.Disk cache.old) bit)
             (working_bit self.old (content_in D.Disk cache.old) bit)) }
         ensures same { self.new ≡ self.old }
-        ensures cause { TellsWhy D.Disk (IsNamed self.old) cache.old cache.new result }
+        ensures cause { TellsWhy D.Disk (IsNamedFor self.old bit) cache.old cache.new result }
         ensures sound { IsTrue (D.origin cache.old.disk).shows
             → IsTied self.old (content_in D.Disk cache.old) → NeverDamaged result }
         ensures reads { OnlyReads D.Disk cache.old cache.new }
@@ -131,7 +131,7 @@ impl Imap {
             → (self.new ≡ self.old) × OnlyReads D.Disk cache.old cache.new }
         ensures unset { OnErr result (self.new ≡ self.old) }
         ensures fault { OnErr result (OnlyReads D.Disk cache.old cache.new) }
-        ensures cause { TellsWhy D.Disk (IsNamed self.old) cache.old cache.new result }
+        ensures cause { TellsWhy D.Disk (IsNamedFor self.old bit) cache.old cache.new result }
         ensures sound { IsTrue (D.origin cache.old.disk).shows
             → IsTied self.old (content_in D.Disk cache.old) → NeverDamaged result }
         ensures tied { IsTrue (D.origin cache.old.disk).shows

@@ -5,7 +5,7 @@ ghost use Rattle.edge_base.specs.layout.Bytes.{bit_in, number_at};
 ghost use Rattle.edge_base.specs.layout.Places.{imap_nodes_of, is_inline_of, IsWithinLimits};
 ghost use Rattle.edge_cache.specs.Blocks.{word_holds_in};
 ghost use Rattle.edge_cache.specs.Calls.{content_in, HasWholeBlocks};
-ghost use Rattle.edge_imap.specs.Bitmaps.{IsRootBits, IsFit, IsLive, bits_of, node_of};
+ghost use Rattle.edge_imap.specs.Bitmaps.{IsRootBits, IsFit, HoldsBit, bits_of, node_of};
 ghost use Rattle.edge_imap.specs.Reading.{OnlyReads, OnlyWrites, TellsWhy, ChangesBit};
 
 use crate::fault::ImapFault;
@@ -111,7 +111,7 @@ pub(crate) fn bit_of<D: Disk>(
         (λ v. v ≡ bit_under g.now roots.now (content_in D.Disk cache.old) bit) }
     ensures inline { is_inline_of g.now ≡ true → (cache.new ≡ cache.old) × IsOk result }
     ensures reads { OnlyReads D.Disk cache.old cache.new }
-    ensures cause { TellsWhy D.Disk (IsLive g.now roots.now) cache.old cache.new result }
+    ensures cause { TellsWhy D.Disk (HoldsBit g.now roots.now bit) cache.old cache.new result }
 {
     if g.is_inline() {
         let _within_limits = g.request();

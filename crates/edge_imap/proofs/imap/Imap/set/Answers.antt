@@ -2,9 +2,10 @@ use Rattle.std.proofs.Common.{◌≡◌, ℕ, List, sym, ap, subst, ◌∙◌, a
 use Rattle.std.proofs.lemmas.List.{with_items_is}
 use Rattle.std.specs.Prelude.{OnOk}
 use Rattle.edge_cache.specs.Calls.{content_in}
-use Rattle.edge_imap.specs.Bitmaps.{Bitmaps, bitmaps, IsNamed, IsTied, working_bit}
+use Rattle.edge_imap.specs.Bitmaps.{Bitmaps, bitmaps, IsNamed, IsNamedFor, IsTied, working_bit}
 use Rattle.edge_imap.specs.Reading.{TellsWhy, Sets}
-use Rattle.edge_imap.proofs.TieLaws.{never_damaged, err_map}
+use Rattle.edge_imap.proofs.CallLaws.{why_within}
+use Rattle.edge_imap.proofs.TieLaws.{named_for, never_damaged, err_map}
 use Rattle.edge_imap.proofs.imap.Imap.set.Goals as goal
 
 pub returns-clause-sets : goal.returns-clause-sets
@@ -35,7 +36,7 @@ pub returns-clause-cause : goal.returns-clause-cause
 returns-clause-cause g c =
     let s = c.self.inside in
     let view : bitmaps s.geometry c.deref.result.now c.deref_mut.result.now s.counts ≡ c.args.self.now = (λ i. bitmaps s.geometry (c.deref.ensures.value i) (c.deref_mut.ensures.value i) s.counts) ∙ c.self.view_is in
-    subst (λ (m : Bitmaps). TellsWhy g.D.Disk (IsNamed m) c.args.cache.now c.set_bit.new.cache c.set_bit.result) view c.set_bit.ensures.cause
+    subst (λ (m : Bitmaps). TellsWhy g.D.Disk (IsNamedFor m c.args.bit) c.args.cache.now c.set_bit.new.cache c.set_bit.result) view c.set_bit.ensures.cause
 
 pub returns-clause-tied : goal.returns-clause-tied
 returns-clause-tied g c = λ tells t.
@@ -47,4 +48,5 @@ returns-clause-tied g c = λ tells t.
     (subst (λ (l : List ℕ). IsTied (bitmaps s.geometry l c.set_bit.new.working c.set_bit.new.counts) (content_in g.D.Disk c.set_bit.new.cache)) c.deref.ensures.value (c.set_bit.ensures.tied tells was))
 
 pub returns-clause-sound : goal.returns-clause-sound
-returns-clause-sound g c = never_damaged g.D.Disk c.args.self.now c.args.cache.now c.set_bit.new.cache c.set_bit.result (returns-clause-cause g c)
+returns-clause-sound g c = never_damaged g.D.Disk c.args.self.now c.args.cache.now c.set_bit.new.cache c.set_bit.result
+    (why_within g.D.Disk (IsNamedFor c.args.self.now c.args.bit) (IsNamed c.args.self.now) c.args.cache.now c.set_bit.new.cache c.set_bit.result (named_for c.args.self.now c.args.bit) (returns-clause-cause g c))
