@@ -1,5 +1,5 @@
 //! Changes of a bit in the working list. A node is changed at its place that is not live.
-ghost use Rattle.std.specs.Prelude.{◌≡◌, ◌≢◌, ◌<◌, ◌≤◌, ◌+◌, ◌-◌, ◌*◌, ◌/◌, ◌%◌, ◌==◌, ℕ, not, true, false, if◌then◌else◌, length, slice_set, IsOk, OnOk, OnErr, IsTrue};
+ghost use Rattle.std.specs.Prelude.{◌≡◌, ◌≢◌, ◌<◌, ◌+◌, ◌-◌, ◌*◌, ◌/◌, ◌==◌, ℕ, not, true, false, if◌then◌else◌, length, IsOk, OnOk, OnErr, IsTrue};
 ghost use Rattle.std.specs.Int.{bit_at};
 ghost use Rattle.edge_base.specs.layout.Bitmap.{live_place, bit_under};
 ghost use Rattle.edge_base.specs.layout.Bytes.{bit_in, number_at};

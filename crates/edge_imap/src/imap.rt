@@ -1,10 +1,8 @@
-ghost use Rattle.std.specs.Prelude.{◌≡◌, ◌≢◌, ◌⊎◌, ◌<◌, ◌≤◌, ◌+◌, ◌-◌, ◌*◌, ◌/◌, ℕ, List, not, true, false, length, Err, IfOk, IfSome, IfErr, IsOk, OnOk, OnErr, IsTrue};
-ghost use Rattle.edge_base.specs.layout.Bitmap.{live_place};
-ghost use Rattle.edge_base.specs.layout.Bytes.{bit_in, number_at};
-ghost use Rattle.edge_base.specs.layout.Places.{is_inline_of, table_start_of};
-ghost use Rattle.edge_cache.specs.Calls.{content_in, KeepsContents};
-ghost use Rattle.edge_imap.specs.Bitmaps.{Bitmaps, IsRootBits, IsFit, IsTied, ChangesUse, bits_of, first_bit, committed_bit, working_bit, committed_use, working_use, is_free_bit, state_of, IsNamed, IsNamedFor};
-ghost use Rattle.edge_imap.specs.Reading.{OnlyReads, OnlyWrites, TellsWhy, TellsLoad, NeverDamaged, Sets};
+ghost use Rattle.std.specs.Prelude.{◌≡◌, ◌<◌, ℕ, List, true, IfOk, IfSome, IsOk, OnOk, OnErr, IsTrue};
+ghost use Rattle.edge_base.specs.layout.Places.{is_inline_of};
+ghost use Rattle.edge_cache.specs.Calls.{content_in};
+ghost use Rattle.edge_imap.specs.Bitmaps.{IsRootBits, IsFit, IsTied, bits_of, first_bit, committed_bit, working_bit, is_free_bit, state_of, IsNamed, IsNamedFor};
+ghost use Rattle.edge_imap.specs.Reading.{OnlyReads, TellsWhy, TellsLoad, NeverDamaged, Sets};
 ghost use Rattle.edge_imap.specs.Search.{Finds, IsWithin};
 
 use crate::change::Change;

@@ -1,5 +1,5 @@
 //! The state of a bit in both lists, and changes of the working one with the counts.
-ghost use Rattle.std.specs.Prelude.{◌≡◌, ◌⊎◌, ◌<◌, ◌≤◌, ◌*◌, ◌+◌, ℕ, true, false, length, IfOk, IsOk, OnOk, OnErr, IsTrue};
+ghost use Rattle.std.specs.Prelude.{◌≡◌, ◌⊎◌, ◌<◌, ◌≤◌, true, length, IfOk, IsOk, OnOk, OnErr, IsTrue};
 ghost use Rattle.edge_base.specs.layout.Bitmap.{bit_under};
 ghost use Rattle.edge_base.specs.layout.Places.{is_inline_of, IsWithinLimits};
 ghost use Rattle.edge_cache.specs.Calls.{content_in};
