@@ -16,9 +16,9 @@ use Rattle.edge_base.proofs.LayoutLaws.{node_of_bit}
 use Rattle.edge_cache.specs.Blocks.{put_at, sealed, changed_by, word_holds_in}
 use Rattle.edge_cache.proofs.GivenLaws.{not_eq}
 use Rattle.edge_cache.proofs.SealLaws.{length-put_at, length-sealed, get_below, get_inside, get_behind, back_agrees, put_at-whole, take-put_at, take-sealed, drop-sealed}
-use Rattle.edge_nodes.proofs.WritingLaws.{signature_in-front, number_at-back, set_changes, slice_index-back}
+use Rattle.edge_nodes.proofs.WritingLaws.{signature_in-front, number_at-back, number_at-front, set_changes, slice_index-back}
 use Rattle.edge_nodes.specs.Writing.{ChangesOnly}
-use Rattle.edge_imap.specs.Bitmaps.{IsNode, spare_place, node_of, bits_of, first_bit}
+use Rattle.edge_imap.specs.Bitmaps.{IsNode, HoldsBit, spare_place, node_of, bits_of, first_bit}
 use Rattle.edge_imap.specs.Reading.{ChangesBit, ChangesCopy}
 
 -- ---- one bit
@@ -104,6 +104,10 @@ pub node_below : (g : Request) (bit : ℕ) → IsLong g.block_size → is_inline
 node_below g bit long external low =
     let at : bit + table_start_of g - table_start_of g ≡ bit = omega arith in
     subst (λ (b : ℕ). b / node_bits g.block_size < imap_nodes_of g) at (node_of_bit g (omega (arith, long.least)) external (bit + table_start_of g) (omega arith) (omega (arith, low)))
+
+-- the block of the node that has a bit
+pub holds_bit : (g : Request) (roots : List ℕ) (bit n k : ℕ) → n ≡ node_of g bit → n < imap_nodes_of g → k ≡ live_place g roots n → HoldsBit g roots bit k
+holds_bit g roots bit n k e low is = (subst (λ (i : ℕ). i < imap_nodes_of g) e low, is ∙ ap (live_place g roots) e)
 
 -- ---- places of nodes
 
@@ -239,6 +243,14 @@ put_changes n at x used old new inside word is here others =
       | inr high ↦ get_behind (16 + at / 8) (x ∷ []) old m 0 (omega arith) (omega arith)
     ])
     here others
+
+-- and the sequence number stays
+pub put_sequence : (at x : ℕ) (old new : List ℕ) → 16 + at / 8 < length old → new ≡ changed_by (16 + at / 8) (x ∷ []) true old → number_at 8 8 new ≡ number_at 8 8 old
+put_sequence at x old new inside is =
+    let put = put_at (16 + at / 8) (x ∷ []) old in
+    let len : length put ≡ length old = length-put_at (16 + at / 8) (x ∷ []) old (omega arith) in
+    ap (number_at 8 8) is ∙ number_at-back 8 8 8 (sealed put) put (omega arith) (drop-sealed 8 put (omega (arith, len)) (omega arith))
+    ∙ number_at-front 16 8 8 put old (omega arith) (take-put_at (16 + at / 8) 16 (x ∷ []) old (omega arith) (omega arith))
 
 -- a whole block was written, marked as a node's
 pub copy_changes : (n at : ℕ) (used : Bool) (old spare put new : List ℕ) → 16 + at / 8 < length old → length put ≡ length old → length spare ≡ length old → word_holds_in new ≡ true

@@ -9,10 +9,10 @@ use Rattle.edge_base.specs.layout.Places.{first_allocable_of, allocable_of}
 use Rattle.edge_alloc.specs.declared.Counts.{Counts}
 use Rattle.edge_imap.specs.Bitmaps.{allocable_counts, counts_after, counts_settled}
 
-abbrev one : Bool → ℕ
+abbrev pub one : Bool → ℕ
 one t = cond t 1 0
 
-count-cons : (p : ℕ → Bool) (x : ℕ) (xs : List ℕ) → count_by p (x ∷ xs) ≡ one (p x) + count_by p xs
+pub count-cons : (p : ℕ → Bool) (x : ℕ) (xs : List ℕ) → count_by p (x ∷ xs) ≡ one (p x) + count_by p xs
 count-cons p x xs = sum_by-cons (λ k. cond (p k) 1 0) x xs
 
 pub count-few : (p : ℕ → Bool) (a n : ℕ) → count_by p (range_with_len a n) ≤ n

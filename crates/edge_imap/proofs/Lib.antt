@@ -4,3 +4,4 @@ pub mod SearchLaws
 pub mod CountLaws
 pub mod TieLaws
 pub mod LoadLaws
+pub mod ListLaws

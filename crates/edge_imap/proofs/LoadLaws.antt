@@ -58,17 +58,35 @@ module _ {D : Type 0} (g : Ghosts D) where
     later = later;
     passed = tt;
     device = λ h. rose;
+    memory = λ h. absurd (cc (fails.1, h));
     node = λ i h. absurd (cc (fails.1, h));
+    read = λ i h. absurd (cc (fails.1, h));
     spells_none = λ tells. inl (ap (λ (x : LoadFault). Err x) fails.1);
   }
 
   pub tells_passed : {T : Type 0} (request : Request) (roots : List ℕ) (old new : Cached D) (v : T) → g.faults new.disk ≡ g.faults old.disk → TellsLoad g request roots old new (Ok v)
-  tells_passed request roots old new v same = record { later = omega (arith, same); passed = same; device = λ h. absurd (cc h); node = λ i h. absurd (cc h) }
+  tells_passed request roots old new v same = record {
+    later = omega (arith, same);
+    passed = same;
+    device = λ h. absurd (cc h);
+    memory = λ h. absurd (cc h);
+    read = λ i h. absurd (cc h);
+    in_range = λ i h. absurd (cc h);
+    node = λ i h. absurd (cc h);
+  }
 
   -- want of memory, before anything was read
   pub tells_memory : {T : Type 0} (request : Request) (roots : List ℕ) (old : Cached D) (r : Result T LoadFault) → IsErr r × IsErrAnd r (λ e. e ≡ Memory) → TellsLoad g request roots old old r
   tells_memory request roots old (Ok v) fails = absurd (cc (fails.0))
-  tells_memory request roots old (Err e) fails = record { later = omega arith; passed = tt; device = λ h. absurd (cc (fails.1, h)); node = λ i h. absurd (cc (fails.1, h)) }
+  tells_memory request roots old (Err e) fails = record {
+    later = omega arith;
+    passed = tt;
+    device = λ h. absurd (cc (fails.1, h));
+    memory = λ h. refl;
+    read = λ i h. absurd (cc (fails.1, h));
+    in_range = λ i h. absurd (cc (fails.1, h));
+    node = λ i h. absurd (cc (fails.1, h));
+  }
 
   -- the fault of the node of pair j, behind good ones
   pub tells_after : {S T : Type 0} (j : ℕ) (request : Request) (roots : List ℕ) (old mid new : Cached D) (s : Result S LoadFault) (r : Result T LoadFault) (e : LoadFault) → j < imap_nodes_of request
@@ -81,6 +99,16 @@ module _ {D : Type 0} (g : Ghosts D) where
     device = λ h.
         let at : e ≡ Device = cc (fails.1, h) in
         subst (λ (n : ℕ). Rose n (g.faults new.disk)) same (why.device (is ∙ ap (λ (y : LoadFault). Err y) at));
+    memory = λ h.
+        let at : e ≡ Memory = cc (fails.1, h) in
+        absurd (why.memory (is ∙ ap (λ (y : LoadFault). Err y) at));
+    read = λ i h.
+        let at : e ≡ Node i = cc (fails.1, h) in
+        why.read i (is ∙ ap (λ (y : LoadFault). Err y) at) ∙ same;
+    in_range = λ i h.
+        let at : e ≡ Node i = cc (fails.1, h) in
+        let there : i ≡ j = why.node i (is ∙ ap (λ (y : LoadFault). Err y) at) in
+        omega (arith, there, low);
     node = λ i h tells.
         let at : e ≡ Node i = cc (fails.1, h) in
         let failed = is ∙ ap (λ (y : LoadFault). Err y) at in
@@ -102,6 +130,9 @@ module _ {D : Type 0} (g : Ghosts D) where
     later = why.later;
     passed = tt;
     device = λ h. let at : e ≡ Device = cc (fails.1, h) in why.device (is ∙ ap (λ (y : LoadFault). Err y) at);
+    memory = λ h. let at : e ≡ Memory = cc (fails.1, h) in why.memory (is ∙ ap (λ (y : LoadFault). Err y) at);
+    read = λ i h. let at : e ≡ Node i = cc (fails.1, h) in why.read i (is ∙ ap (λ (y : LoadFault). Err y) at);
+    in_range = λ i h. let at : e ≡ Node i = cc (fails.1, h) in why.in_range i (is ∙ ap (λ (y : LoadFault). Err y) at);
     node = λ i h. let at : e ≡ Node i = cc (fails.1, h) in why.node i (is ∙ ap (λ (y : LoadFault). Err y) at);
   }
 

@@ -12,7 +12,7 @@ use Rattle.edge_base.specs.layout.Sizes.{node_bits}
 use Rattle.edge_base.specs.layout.Spelling.{bits_of_node}
 use Rattle.edge_alloc.specs.declared.Counts.{Counts}
 use Rattle.edge_cache.proofs.GivenLaws.{not_eq}
-use Rattle.edge_imap.specs.Bitmaps.{Bitmaps, bitmaps, ChangesUse, IsRootBits, IsNode, HasNodes, IsTied, IsLive, IsNamed, SameNodes, spare_place, node_of, bits_of, counts_settled, counts_after, first_bit, committed_use, working_use}
+use Rattle.edge_imap.specs.Bitmaps.{Bitmaps, bitmaps, ChangesUse, IsRootBits, IsNode, HasNodes, IsTied, IsLive, IsNamed, IsNamedFor, SameNodes, spare_place, node_of, bits_of, counts_settled, counts_after, first_bit, committed_use, working_use}
 use Rattle.edge_cache.specs.Blocks.{word_holds_in}
 use Rattle.edge_cache.specs.Cached.{Cached}
 use Rattle.edge_cache.specs.Calls.{content_in}
@@ -134,6 +134,10 @@ never_damaged d m old new r why tells tied damage is =
   where
     holds : (roots : List ℕ) → HasNodes m.geometry roots (content_in d old) → IsLive m.geometry roots damage.block → word_holds_in (content_in d old damage.block) ≡ false → ⊥
     holds roots nodes live differs = cc (word_holds_node m.geometry live.0 (content_in d old (live_place m.geometry roots live.0)) (nodes live.0 live.1), ap (λ (b : ℕ). word_holds_in (content_in d old b)) live.2, differs)
+
+-- the live place of the pair that holds a bit is a live place
+pub named_for : (m : Bitmaps) (bit k : ℕ) → IsNamedFor m bit k → IsNamed m k
+named_for m bit k h = ⊎_elim (λ l. inl (node_of m.geometry bit, l.0, l.1)) (λ l. inr (node_of m.geometry bit, l.0, l.1)) h
 
 -- ---- the tie
 

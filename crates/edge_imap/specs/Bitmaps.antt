@@ -93,6 +93,14 @@ IsLive g roots k = (j : ℕ) × (j < imap_nodes_of g) × (k ≡ live_place g roo
 abbrev pub IsNamed : Bitmaps → ℕ → Type 0
 IsNamed m k = IsLive m.geometry m.committed k ⊎ IsLive m.geometry m.working k
 
+-- a block is the live place of the pair that holds a bit
+abbrev pub HoldsBit : Request → List ℕ → ℕ → ℕ → Type 0
+HoldsBit g roots bit k = (node_of g bit < imap_nodes_of g) × (k ≡ live_place g roots (node_of g bit))
+
+-- and under one of the two roots
+abbrev pub IsNamedFor : Bitmaps → ℕ → ℕ → Type 0
+IsNamedFor m bit k = HoldsBit m.geometry m.committed bit k ⊎ HoldsBit m.geometry m.working bit k
+
 -- ---- the tie to a cache
 
 -- the disk has blocks of this size, and enough of them

@@ -63,7 +63,9 @@ module _ {D : Type 0} (g : Ghosts D) where
     pub later : g.faults old.disk ≤ g.faults new.disk
     pub passed : OnOk result (g.faults new.disk ≡ g.faults old.disk)
     pub device : result ≡ Err loads.Device → Rose (g.faults old.disk) (g.faults new.disk)
+    pub memory : result ≢ Err loads.Memory
     pub node : (i : ℕ) → result ≡ Err (loads.Node i) → i ≡ j
+    pub read : (i : ℕ) → result ≡ Err (loads.Node i) → g.faults new.disk ≡ g.faults old.disk
     pub spells_none : IsTrue (g.origin old.disk).shows → OnErr result ((result ≡ Err loads.Device) ⊎ (is_ok (imap_in request j content) ≡ false))
 
   -- the same of a load, which answers Node where a node spells none
@@ -71,6 +73,11 @@ module _ {D : Type 0} (g : Ghosts D) where
     pub later : g.faults old.disk ≤ g.faults new.disk
     pub passed : OnOk result (g.faults new.disk ≡ g.faults old.disk)
     pub device : result ≡ Err loads.Device → Rose (g.faults old.disk) (g.faults new.disk)
+    -- memory is taken before anything is read
+    pub memory : result ≡ Err loads.Memory → new ≡ old
+    -- each block was read, whatever the disk tells
+    pub read : (i : ℕ) → result ≡ Err (loads.Node i) → g.faults new.disk ≡ g.faults old.disk
+    pub in_range : (i : ℕ) → result ≡ Err (loads.Node i) → i < imap_nodes_of request
     pub node : (i : ℕ) → result ≡ Err (loads.Node i) → IsTrue (g.origin old.disk).shows → IsFirstBad request roots old i
 
   -- A bit of a node was changed. The node has its place that is not live in the last point, which alone was written.
@@ -82,6 +89,9 @@ module _ {D : Type 0} (g : Ghosts D) where
     -- where it had not got its place before, it carries the sequence number
     pub first : IsTrue (g.origin old.disk).shows → bit_in 0 working_old (node_of request bit) ≡ bit_in 0 committed (node_of request bit)
         → number_at 8 8 (content_in g new (spare_place request committed (node_of request bit))) ≡ sequence
+    -- and where it had, the number that it carries stays
+    pub again : IsTrue (g.origin old.disk).shows → bit_in 0 working_old (node_of request bit) ≡ not (bit_in 0 committed (node_of request bit))
+        → number_at 8 8 (content_in g new (live_place request working_new (node_of request bit))) ≡ number_at 8 8 (content_in g old (live_place request working_old (node_of request bit)))
     pub bits : IsTrue (g.origin old.disk).shows → (i : ℕ) → bit_under request working_new (content_in g new) i
         ≡ (if i == bit then used else bit_under request working_old (content_in g old) i)
     pub node : IsTrue (g.origin old.disk).shows → IsNode request (node_of request bit) (content_in g old (live_place request working_old (node_of request bit)))
@@ -100,6 +110,11 @@ module _ {D : Type 0} (g : Ghosts D) where
     pub sequence_is : IsTrue (g.origin old.disk).shows → is_inline_of m_old.geometry ≡ false
         → bit_in 0 m_new.working (node_of m_old.geometry bit) ≢ bit_in 0 m_old.working (node_of m_old.geometry bit)
         → number_at 8 8 (content_in g new (live_place m_old.geometry m_new.working (node_of m_old.geometry bit))) ≡ sequence
+    -- and the number that it had, where it stays at its place
+    pub sequence_stays : IsTrue (g.origin old.disk).shows → is_inline_of m_old.geometry ≡ false
+        → bit_in 0 m_new.working (node_of m_old.geometry bit) ≡ bit_in 0 m_old.working (node_of m_old.geometry bit)
+        → number_at 8 8 (content_in g new (live_place m_old.geometry m_new.working (node_of m_old.geometry bit)))
+        ≡ number_at 8 8 (content_in g old (live_place m_old.geometry m_old.working (node_of m_old.geometry bit)))
 
 -- Of the first n bits of an imap node one has changed, and its check word holds. Its sequence number may differ.
 pub record ChangesBit (n at : ℕ) (used : Bool) (old new : List ℕ) : Type 0 where

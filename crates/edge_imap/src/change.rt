@@ -1,11 +1,11 @@
 //! Changes of a bit in the working list. A node is changed at its place that is not live.
-ghost use Rattle.std.specs.Prelude.{◌≡◌, ◌≢◌, ◌<◌, ◌≤◌, ◌+◌, ◌-◌, ◌*◌, ◌/◌, ◌%◌, ◌==◌, ℕ, not, true, false, if◌then◌else◌, length, slice_set, IsOk, OnOk, OnErr, IsTrue};
+ghost use Rattle.std.specs.Prelude.{◌≡◌, ◌≢◌, ◌<◌, ◌+◌, ◌-◌, ◌*◌, ◌/◌, ◌==◌, ℕ, not, true, false, if◌then◌else◌, length, IsOk, OnOk, OnErr, IsTrue};
 ghost use Rattle.std.specs.Int.{bit_at};
 ghost use Rattle.edge_base.specs.layout.Bitmap.{live_place, bit_under};
 ghost use Rattle.edge_base.specs.layout.Bytes.{bit_in, number_at};
 ghost use Rattle.edge_base.specs.layout.Places.{is_inline_of};
 ghost use Rattle.edge_cache.specs.Calls.{content_in};
-ghost use Rattle.edge_imap.specs.Bitmaps.{IsRootBits, IsFit, IsLive, IsNode, bits_of, node_of, spare_place};
+ghost use Rattle.edge_imap.specs.Bitmaps.{IsRootBits, IsFit, HoldsBit, IsNode, bits_of, node_of, spare_place};
 ghost use Rattle.edge_imap.specs.Reading.{OnlyReads, OnlyWrites, TellsWhy, TurnsNode, ChangesBit, ChangesCopy};
 
 use crate::fault::ImapFault;
@@ -50,6 +50,9 @@ fn change_bit<D: Disk>(
     ensures bits { IsTrue (D.origin cache.old.disk).shows → OnOk result
         (ChangesBit (8 * ((D.origin cache.old.disk).block_size - 16)) at used
         (content_in D.Disk cache.old block) (content_in D.Disk cache.new block)) }
+    ensures sequence { IsTrue (D.origin cache.old.disk).shows → OnOk result
+        (number_at 8 8 (content_in D.Disk cache.new block)
+        ≡ number_at 8 8 (content_in D.Disk cache.old block)) }
 {
     check_word(cache, block)?;
     let mut byte = [0u8; 1];
@@ -113,7 +116,8 @@ fn change_again<D: Disk>(
         (OnlyWrites D.Disk (live_place g.now working.now (node_of g.now change.bit))
         cache.old cache.new) }
     ensures fault { OnErr result (OnlyReads D.Disk cache.old cache.new) }
-    ensures cause { TellsWhy D.Disk (IsLive g.now working.now) cache.old cache.new result }
+    ensures cause { TellsWhy D.Disk (HoldsBit g.now working.now change.bit)
+        cache.old cache.new result }
     ensures bits { IsTrue (D.origin cache.old.disk).shows → OnOk result ((i : ℕ)
         → bit_under g.now working.now (content_in D.Disk cache.new) i
         ≡ (if i == change.bit then change.used
@@ -123,6 +127,10 @@ fn change_again<D: Disk>(
         (content_in D.Disk cache.old (live_place g.now working.now (node_of g.now change.bit)))
         → OnOk result (IsNode g.now (node_of g.now change.bit)
         (content_in D.Disk cache.new (live_place g.now working.now (node_of g.now change.bit)))) }
+    ensures sequence { IsTrue (D.origin cache.old.disk).shows → OnOk result (number_at 8 8
+        (content_in D.Disk cache.new (live_place g.now working.now (node_of g.now change.bit)))
+        ≡ number_at 8 8
+        (content_in D.Disk cache.old (live_place g.now working.now (node_of g.now change.bit)))) }
 {
     let block = live_block(g, working, node_of_bit(g, change.bit));
     change_bit(cache, block, change.bit % g.node_bits(), change.used)?;
@@ -152,7 +160,8 @@ fn change_first<D: Disk>(
         cache.old cache.new) }
     ensures fault { OnErr result (OnlyReads D.Disk cache.old cache.new) }
     ensures unmoved { OnErr result (working.new ≡ working.old) }
-    ensures cause { TellsWhy D.Disk (IsLive g.now working.old) cache.old cache.new result }
+    ensures cause { TellsWhy D.Disk (HoldsBit g.now working.old change.bit)
+        cache.old cache.new result }
     ensures bits { IsTrue (D.origin cache.old.disk).shows → OnOk result ((i : ℕ)
         → bit_under g.now working.new (content_in D.Disk cache.new) i
         ≡ (if i == change.bit then change.used
@@ -199,7 +208,8 @@ fn turn_node<D: Disk>(
         change.sequence change.bit change.used cache.old cache.new) }
     ensures fault { OnErr result (OnlyReads D.Disk cache.old cache.new) }
     ensures unmoved { OnErr result (working.new ≡ working.old) }
-    ensures cause { TellsWhy D.Disk (IsLive g.now working.old) cache.old cache.new result }
+    ensures cause { TellsWhy D.Disk (HoldsBit g.now working.old change.bit)
+        cache.old cache.new result }
 {
     let node = node_of_bit(g, change.bit);
     let second = get(committed, node);
@@ -235,7 +245,8 @@ pub(crate) fn turn_bit<D: Disk>(
         else bit_under g.now working.old (content_in D.Disk cache.old) i)) }
     ensures fault { OnErr result (OnlyReads D.Disk cache.old cache.new) }
     ensures unmoved { OnErr result (working.new ≡ working.old) }
-    ensures cause { TellsWhy D.Disk (IsLive g.now working.old) cache.old cache.new result }
+    ensures cause { TellsWhy D.Disk (HoldsBit g.now working.old change.bit)
+        cache.old cache.new result }
 {
     if !g.is_inline() {
         return turn_node(g, committed, working, block, cache, change);

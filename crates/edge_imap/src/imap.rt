@@ -1,10 +1,8 @@
-ghost use Rattle.std.specs.Prelude.{◌≡◌, ◌≢◌, ◌⊎◌, ◌<◌, ◌≤◌, ◌+◌, ◌-◌, ◌*◌, ◌/◌, ℕ, List, not, true, false, length, Err, IfOk, IfSome, IfErr, IsOk, OnOk, OnErr, IsTrue};
-ghost use Rattle.edge_base.specs.layout.Bitmap.{live_place};
-ghost use Rattle.edge_base.specs.layout.Bytes.{bit_in, number_at};
-ghost use Rattle.edge_base.specs.layout.Places.{is_inline_of, table_start_of};
-ghost use Rattle.edge_cache.specs.Calls.{content_in, KeepsContents};
-ghost use Rattle.edge_imap.specs.Bitmaps.{Bitmaps, IsRootBits, IsFit, IsLive, IsTied, ChangesUse, bits_of, first_bit, committed_bit, working_bit, committed_use, working_use, is_free_bit, state_of, IsNamed};
-ghost use Rattle.edge_imap.specs.Reading.{OnlyReads, OnlyWrites, TellsWhy, TellsLoad, NeverDamaged, Sets};
+ghost use Rattle.std.specs.Prelude.{◌≡◌, ◌<◌, ℕ, List, true, IfOk, IfSome, IsOk, OnOk, OnErr, IsTrue};
+ghost use Rattle.edge_base.specs.layout.Places.{is_inline_of};
+ghost use Rattle.edge_cache.specs.Calls.{content_in};
+ghost use Rattle.edge_imap.specs.Bitmaps.{IsRootBits, IsFit, IsTied, bits_of, first_bit, committed_bit, working_bit, is_free_bit, state_of, IsNamed, IsNamedFor};
+ghost use Rattle.edge_imap.specs.Reading.{OnlyReads, TellsWhy, TellsLoad, NeverDamaged, Sets};
 ghost use Rattle.edge_imap.specs.Search.{Finds, IsWithin};
 
 use crate::change::Change;
@@ -100,7 +98,7 @@ impl Imap {
             (committed_bit self.old (content_in D.Disk cache.old) bit)
             (working_bit self.old (content_in D.Disk cache.old) bit)) }
         ensures same { self.new ≡ self.old }
-        ensures cause { TellsWhy D.Disk (IsNamed self.old) cache.old cache.new result }
+        ensures cause { TellsWhy D.Disk (IsNamedFor self.old bit) cache.old cache.new result }
         ensures sound { IsTrue (D.origin cache.old.disk).shows
             → IsTied self.old (content_in D.Disk cache.old) → NeverDamaged result }
         ensures reads { OnlyReads D.Disk cache.old cache.new }
@@ -126,9 +124,12 @@ impl Imap {
             cache.old cache.new) }
         ensures inline { is_inline_of self.old.geometry ≡ true
             → (cache.new ≡ cache.old) × IsOk result }
+        ensures idle { IsTrue (D.origin cache.old.disk).shows
+            → working_bit self.old (content_in D.Disk cache.old) bit ≡ used
+            → (self.new ≡ self.old) × OnlyReads D.Disk cache.old cache.new }
         ensures unset { OnErr result (self.new ≡ self.old) }
         ensures fault { OnErr result (OnlyReads D.Disk cache.old cache.new) }
-        ensures cause { TellsWhy D.Disk (IsNamed self.old) cache.old cache.new result }
+        ensures cause { TellsWhy D.Disk (IsNamedFor self.old bit) cache.old cache.new result }
         ensures sound { IsTrue (D.origin cache.old.disk).shows
             → IsTied self.old (content_in D.Disk cache.old) → NeverDamaged result }
         ensures tied { IsTrue (D.origin cache.old.disk).shows

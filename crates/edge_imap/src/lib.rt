@@ -14,4 +14,8 @@ mod state;
 pub use edge_alloc::Counts;
 pub use fault::{BlockState, ImapFault, LoadFault};
 pub use imap::Imap;
-pub use laws::{a_clean_cache_shows_the_nodes, others_keep_the_tie, the_spare_place_is_not_live};
+pub use laws::{
+    a_block_that_is_counted_is_found, a_clean_cache_shows_the_nodes, others_keep_the_lists,
+    others_keep_the_tie, the_counts_are_of_the_working_list, the_live_nodes_tell_the_list,
+    the_spare_place_is_not_live, the_spare_place_is_of_the_nodes,
+};

@@ -1,12 +1,9 @@
 //! Reading the live nodes: each has to spell its node, and its free blocks are counted.
-ghost use Rattle.std.specs.Prelude.{◌≡◌, ◌<◌, ◌≤◌, ◌+◌, ◌-◌, ◌*◌, ◌&&◌, ℕ, not, true, false, count_by, min, max, length, Ok, Err, OnOk, IfOk, IsTrue, is_ok};
-ghost use Rattle.std.specs.List.{range_with_len};
+ghost use Rattle.std.specs.Prelude.{◌≡◌, ◌<◌, true, false, length, OnOk, IfOk, IsTrue};
 ghost use Rattle.edge_base.specs.layout.Bitmap.{live_place, bit_under};
 ghost use Rattle.edge_base.specs.layout.Bytes.{bit_in};
 ghost use Rattle.edge_base.specs.layout.Places.{is_inline_of, imap_nodes_of};
-ghost use Rattle.edge_base.specs.layout.Sizes.{node_bits};
-ghost use Rattle.edge_base.specs.layout.Spelling.{imap_in};
-ghost use Rattle.edge_cache.specs.Calls.{content_in, HasWholeBlocks};
+ghost use Rattle.edge_cache.specs.Calls.{content_in};
 ghost use Rattle.edge_imap.specs.Bitmaps.{IsRootBits, IsFit, IsNode, HasNodes, count_clear, count_in_node};
 ghost use Rattle.edge_imap.specs.Reading.{OnlyReads, TellsLoad, TellsNode};
 

@@ -1,19 +1,17 @@
 //! Imap nodes in a cache.
-ghost use Rattle.std.specs.Prelude.{◌≡◌, ◌≢◌, ◌⊎◌, ◌<◌, ◌≤◌, ◌+◌, ◌-◌, ◌*◌, ◌/◌, ◌&&◌, not, ℕ, true, false, List, length, drop, slice_range, IfOk, IfSome, IsOk, OnOk, OnErr, IsTrue};
+ghost use Rattle.std.specs.Prelude.{◌≡◌, ◌<◌, ◌≤◌, ◌+◌, ◌-◌, ◌*◌, ◌/◌, true, false, length, IfOk, IsOk, OnOk, IsTrue};
 ghost use Rattle.edge_base.specs.layout.Bitmap.{live_place, bit_under};
-ghost use Rattle.edge_base.specs.layout.Bytes.{bit_in, number_at};
+ghost use Rattle.edge_base.specs.layout.Bytes.{bit_in};
 ghost use Rattle.edge_base.specs.layout.Places.{imap_nodes_of, is_inline_of, IsWithinLimits};
-ghost use Rattle.edge_cache.specs.Blocks.{word_holds_in};
 ghost use Rattle.edge_cache.specs.Calls.{content_in, HasWholeBlocks};
-ghost use Rattle.edge_imap.specs.Bitmaps.{IsRootBits, IsFit, IsLive, bits_of, node_of};
-ghost use Rattle.edge_imap.specs.Reading.{OnlyReads, OnlyWrites, TellsWhy, ChangesBit};
+ghost use Rattle.edge_imap.specs.Bitmaps.{IsRootBits, IsFit, HoldsBit, bits_of, node_of};
+ghost use Rattle.edge_imap.specs.Reading.{OnlyReads, TellsWhy};
 
 use crate::fault::ImapFault;
 use edge_base::{Damage, DamageKind, Geometry};
-use edge_bits::{get, set};
+use edge_bits::get;
 use edge_cache::Cache;
 use edge_disk::Disk;
-use edge_nodes::change_sequence;
 
 // The bits of an imap node begin here.
 pub(crate) const BITS: u32 = 16;
@@ -111,7 +109,7 @@ pub(crate) fn bit_of<D: Disk>(
         (λ v. v ≡ bit_under g.now roots.now (content_in D.Disk cache.old) bit) }
     ensures inline { is_inline_of g.now ≡ true → (cache.new ≡ cache.old) × IsOk result }
     ensures reads { OnlyReads D.Disk cache.old cache.new }
-    ensures cause { TellsWhy D.Disk (IsLive g.now roots.now) cache.old cache.new result }
+    ensures cause { TellsWhy D.Disk (HoldsBit g.now roots.now bit) cache.old cache.new result }
 {
     if g.is_inline() {
         let _within_limits = g.request();

@@ -1,5 +1,5 @@
 //! The search for a free bit, by words of the bitmaps. No node is read twice.
-ghost use Rattle.std.specs.Prelude.{◌≡◌, ◌⊎◌, ◌<◌, ◌≤◌, ◌+◌, ◌-◌, ◌*◌, ◌/◌, ◌^◌, ℕ, true, false, min, max, length, IfOk, IfSome, IsTrue};
+ghost use Rattle.std.specs.Prelude.{◌≡◌, ◌⊎◌, ◌<◌, ◌≤◌, ◌+◌, ◌-◌, ◌*◌, ◌^◌, true, false, min, max, length, IfOk, IfSome, IsTrue};
 ghost use Rattle.edge_alloc.specs.Pairs.{is_free};
 ghost use Rattle.edge_base.specs.layout.Places.{is_inline_of, imap_nodes_of};
 ghost use Rattle.edge_base.specs.layout.Sizes.{node_bits};

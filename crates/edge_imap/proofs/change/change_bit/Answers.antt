@@ -3,7 +3,7 @@ use Rattle.std.specs.Int.{bit_at}
 use Rattle.edge_cache.specs.Blocks.{changed_by}
 use Rattle.edge_cache.specs.Calls.{content_in}
 use Rattle.edge_cache.specs.Given.{or_shown}
-use Rattle.edge_imap.proofs.BitLaws.{read_byte, put_changes}
+use Rattle.edge_imap.proofs.BitLaws.{read_byte, put_changes, put_sequence}
 use Rattle.edge_imap.proofs.CallLaws.{reads_same, reads_call, reads_fault, reads_after, writes_call, writes_after, why_passed, why_device, why_after, shows_on}
 use Rattle.edge_imap.proofs.TieLaws.{on_err}
 use Rattle.edge_imap.proofs.change.change_bit.Goals as goal
@@ -58,3 +58,16 @@ returns-clause-bits g c = λ tells.
     let put = ap (λ w. or_shown w (d.shown three.disk block)) (c.in_ok-write.ensures.bytes tells_two) ∙ ap (changed_by n (c.with_bit.result ∷ []) true) (reads.contents tells block) in
     put_changes _ c.args.at c.with_bit.result c.args.used old (content_in d three block) (omega (arith, c.requires.inside, len)) (c.in_ok-write.ensures.word refl) put
     c.with_bit.ensures.here (λ k low far. c.with_bit.ensures.others k low far ∙ ap (λ (y : ℕ). bit_at y k == 1) byte)
+
+pub returns-clause-sequence : goal.returns-clause-sequence
+returns-clause-sequence g c = λ tells.
+    let d = g.D.Disk in
+    let start = c.args.cache.now in
+    let two = c.read.new.self in
+    let three = c.write.new.self in
+    let block = c.args.block in
+    let reads = reads_after d _ _ _ c.check_word.ensures.reads (reads_call d _ _ c.read.ensures.origin c.read.ensures.only c.read.ensures.clean) in
+    let tells_two = shows_on d start two reads.origin tells in
+    let len = c.check_word.ensures.whole tells block c.requires.in_range in
+    let put = ap (λ w. or_shown w (d.shown three.disk block)) (c.in_ok-write.ensures.bytes tells_two) ∙ ap (changed_by (16 + c.args.at / 8) (c.with_bit.result ∷ []) true) (reads.contents tells block) in
+    put_sequence c.args.at c.with_bit.result (content_in d start block) (content_in d three block) (omega (arith, c.requires.inside, len)) put

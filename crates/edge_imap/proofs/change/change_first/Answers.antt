@@ -5,9 +5,9 @@ use Rattle.edge_base.specs.layout.Bytes.{bit_in, number_at}
 use Rattle.edge_base.specs.layout.Places.{imap_place_of}
 use Rattle.edge_base.specs.layout.Sizes.{node_bits}
 use Rattle.edge_cache.specs.Calls.{content_in}
-use Rattle.edge_imap.specs.Bitmaps.{IsLive, node_of, spare_place}
+use Rattle.edge_imap.specs.Bitmaps.{HoldsBit, node_of, spare_place}
 use Rattle.edge_imap.specs.Reading.{OnlyWrites}
-use Rattle.edge_imap.proofs.BitLaws.{long_blocks, rest_inside, node_changes, node_with_bit}
+use Rattle.edge_imap.proofs.BitLaws.{long_blocks, rest_inside, holds_bit, node_changes, node_with_bit}
 use Rattle.edge_imap.proofs.CallLaws.{reads_same, why_passed, why_after}
 use Rattle.edge_imap.proofs.TieLaws.{on_err, bit_within, change_at, roots_changed, root_bits_external}
 use Rattle.edge_imap.proofs.change.change_first.Goals as goal
@@ -37,8 +37,8 @@ returns-in_err-copy_bit-clause-unmoved g c = on_err c.from_residual.result refl
 pub returns-in_err-copy_bit-clause-cause : goal.returns-in_err-copy_bit-clause-cause
 returns-in_err-copy_bit-clause-cause g c =
     let from = c.imap_place-from.ensures.place ∙ ap (imap_place_of c.args.g.now c.node_of_bit-node.result) c.get-second.ensures in
-    why_after g.D.Disk (λ k. k ≡ c.imap_place-from.result) (IsLive c.args.g.now c.args.working.now) c.args.cache.now c.args.cache.now c.copy_bit.new.cache c.copy_bit.result _ c.in_err-copy_bit.field-0.0
-    (λ k h. (c.node_of_bit-node.result, c.node_of_bit-node.ensures.in_range, h ∙ from)) (reads_same g.D.Disk c.args.cache.now) refl c.copy_bit.ensures.cause c.in_err-copy_bit.was c.from_residual.ensures
+    why_after g.D.Disk (λ k. k ≡ c.imap_place-from.result) (HoldsBit c.args.g.now c.args.working.now c.args.change.bit) c.args.cache.now c.args.cache.now c.copy_bit.new.cache c.copy_bit.result _ c.in_err-copy_bit.field-0.0
+    (λ k h. holds_bit c.args.g.now c.args.working.now c.args.change.bit c.node_of_bit-node.result k c.node_of_bit-node.ensures.node c.node_of_bit-node.ensures.in_range (h ∙ from)) (reads_same g.D.Disk c.args.cache.now) refl c.copy_bit.ensures.cause c.in_err-copy_bit.was c.from_residual.ensures
 
 pub set-requires : goal.set-requires
 set-requires g c = omega (arith, c.node_of_bit-node.ensures.in_range, c.requires.working.len, c.node_of_bit-node.ensures.fits)
@@ -61,7 +61,7 @@ returns-clause-writes g c =
     subst (λ (b : ℕ). OnlyWrites g.D.Disk b c.args.cache.now c.copy_bit.new.cache) to c.in_ok-copy_bit.ensures.writes
 
 pub returns-clause-cause : goal.returns-clause-cause
-returns-clause-cause g c = why_passed g.D.Disk (IsLive c.args.g.now c.args.working.now) _ _ _ c.in_ok-copy_bit.ensures.cause.passed
+returns-clause-cause g c = why_passed g.D.Disk (HoldsBit c.args.g.now c.args.working.now c.args.change.bit) _ _ _ c.in_ok-copy_bit.ensures.cause.passed
 
 pub returns-clause-bits : goal.returns-clause-bits
 returns-clause-bits g c = λ tells.

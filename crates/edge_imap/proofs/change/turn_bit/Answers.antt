@@ -1,7 +1,7 @@
 use Rattle.std.proofs.Common.{refl, sym, ◌∙◌, arith}
 use Rattle.edge_cache.specs.Calls.{content_in}
 use Rattle.edge_cache.proofs.CacheLaws.{on_ok}
-use Rattle.edge_imap.specs.Bitmaps.{IsLive}
+use Rattle.edge_imap.specs.Bitmaps.{HoldsBit}
 use Rattle.edge_imap.proofs.BitLaws.{root_fits, root_changes}
 use Rattle.edge_imap.proofs.CallLaws.{why_passed}
 use Rattle.edge_imap.proofs.TieLaws.{roots_changed, root_bits_inline, no_nodes}
@@ -36,4 +36,4 @@ returns-clause-bits g c = λ tells.
     c.set.ensures.here c.set.ensures.others
 
 pub returns-clause-cause : goal.returns-clause-cause
-returns-clause-cause g c = why_passed g.D.Disk (IsLive c.args.g.now c.args.working.now) _ _ _ refl
+returns-clause-cause g c = why_passed g.D.Disk (HoldsBit c.args.g.now c.args.working.now c.args.change.bit) _ _ _ refl

@@ -3,7 +3,7 @@ use Rattle.std.specs.Prelude.{not}
 use Rattle.edge_base.specs.layout.Bytes.{bit_in, number_at}
 use Rattle.edge_base.specs.layout.Places.{imap_place_of}
 use Rattle.edge_cache.specs.Calls.{content_in}
-use Rattle.edge_imap.specs.Bitmaps.{IsLive, IsNode, node_of, spare_place}
+use Rattle.edge_imap.specs.Bitmaps.{HoldsBit, IsNode, node_of, spare_place}
 use Rattle.edge_imap.specs.Reading.{OnlyWrites}
 use Rattle.edge_imap.proofs.CallLaws.{reads_same, why_passed, why_after}
 use Rattle.edge_imap.proofs.TieLaws.{on_err, same_flags, other_flags, not_self}
@@ -23,7 +23,7 @@ returns-in_err-change_first-clause-unmoved g c = on_err c.from_residual.result c
 
 pub returns-in_err-change_first-clause-cause : goal.returns-in_err-change_first-clause-cause
 returns-in_err-change_first-clause-cause g c =
-    let live = IsLive c.args.g.now c.args.working.now in
+    let live = HoldsBit c.args.g.now c.args.working.now c.args.change.bit in
     why_after g.D.Disk live live c.args.cache.now c.args.cache.now c.change_first.new.cache c.change_first.result _ c.in_err-change_first.field-0.0 (λ k h. h) (reads_same g.D.Disk c.args.cache.now) refl
     c.change_first.ensures.cause c.in_err-change_first.was c.from_residual.ensures
 
@@ -41,12 +41,13 @@ returns-then-second-get-clause-turns g c =
       place = did.turned ∙ ap not same;
       places = did.stays;
       first = λ tells e. ap (λ (b : ℕ). number_at 8 8 (content_in g.D.Disk c.change_first.new.cache b)) (sym spare) ∙ did.sequence tells;
+      again = λ tells e. absurd (not_self (bit_in 0 c.args.committed.now n) (sym same ∙ e));
       bits = did.bits;
       node = λ tells was. subst (λ (b : ℕ). IsNode geometry n (content_in g.D.Disk c.change_first.new.cache b)) (ap (imap_place_of geometry n) (sym did.turned)) (did.node tells was);
     }
 
 pub returns-then-second-get-clause-cause : goal.returns-then-second-get-clause-cause
-returns-then-second-get-clause-cause g c = why_passed g.D.Disk (IsLive c.args.g.now c.args.working.now) _ _ _ c.in_ok-change_first.ensures.cause.passed
+returns-then-second-get-clause-cause g c = why_passed g.D.Disk (HoldsBit c.args.g.now c.args.working.now c.args.change.bit) _ _ _ c.in_ok-change_first.ensures.cause.passed
 
 pub returns-in_err-change_again-clause-fault : goal.returns-in_err-change_again-clause-fault
 returns-in_err-change_again-clause-fault g c = on_err c.from_residual-in_err-change_again.result c.in_err-change_again.ensures.fault
@@ -56,7 +57,7 @@ returns-in_err-change_again-clause-unmoved g c = on_err c.from_residual-in_err-c
 
 pub returns-in_err-change_again-clause-cause : goal.returns-in_err-change_again-clause-cause
 returns-in_err-change_again-clause-cause g c =
-    let live = IsLive c.args.g.now c.args.working.now in
+    let live = HoldsBit c.args.g.now c.args.working.now c.args.change.bit in
     why_after g.D.Disk live live c.args.cache.now c.args.cache.now c.change_again.new.cache c.change_again.result _ c.in_err-change_again.field-0.0 (λ k h. h) (reads_same g.D.Disk c.args.cache.now) refl
     c.change_again.ensures.cause c.in_err-change_again.was c.from_residual-in_err-change_again.ensures
 
@@ -73,9 +74,10 @@ returns-clause-turns g c =
       place = other;
       places = λ j far. refl;
       first = λ tells e. absurd (not_self (bit_in 0 c.args.committed.now n) (sym e ∙ other));
+      again = λ tells e. did.sequence tells;
       bits = did.bits;
       node = did.node;
     }
 
 pub returns-clause-cause : goal.returns-clause-cause
-returns-clause-cause g c = why_passed g.D.Disk (IsLive c.args.g.now c.args.working.now) _ _ _ c.in_ok-change_again.ensures.cause.passed
+returns-clause-cause g c = why_passed g.D.Disk (HoldsBit c.args.g.now c.args.working.now c.args.change.bit) _ _ _ c.in_ok-change_again.ensures.cause.passed

@@ -2,9 +2,9 @@ use Rattle.std.proofs.Common.{◌≡◌, ℕ, ◌%◌, refl, sym, ap, ◌∙◌,
 use Rattle.edge_base.specs.layout.Bitmap.{live_place}
 use Rattle.edge_base.specs.layout.Bytes.{bit_in}
 use Rattle.edge_cache.specs.Calls.{content_in}
-use Rattle.edge_imap.specs.Bitmaps.{IsLive}
+use Rattle.edge_imap.specs.Bitmaps.{HoldsBit}
 use Rattle.edge_imap.proofs.CallLaws.{reads_same, why_passed, why_after}
-use Rattle.edge_imap.proofs.BitLaws.{bit_of_root, bit_of_node as in_node, long_blocks, root_fits, rest_inside}
+use Rattle.edge_imap.proofs.BitLaws.{bit_of_root, bit_of_node as in_node, long_blocks, root_fits, rest_inside, holds_bit}
 use Rattle.edge_imap.proofs.node.bit_of.Goals as goal
 
 pub get-requires : goal.get-requires
@@ -17,7 +17,7 @@ pub returns-then-is_inline-clause-reads : goal.returns-then-is_inline-clause-rea
 returns-then-is_inline-clause-reads g c = reads_same g.D.Disk c.args.cache.now
 
 pub returns-then-is_inline-clause-cause : goal.returns-then-is_inline-clause-cause
-returns-then-is_inline-clause-cause g c = why_passed g.D.Disk (IsLive c.args.g.now c.args.roots.now) _ _ _ refl
+returns-then-is_inline-clause-cause g c = why_passed g.D.Disk (HoldsBit c.args.g.now c.args.roots.now c.args.bit) _ _ _ refl
 
 pub node_of_bit-requires-clause-external : goal.node_of_bit-requires-clause-external
 node_of_bit-requires-clause-external g c = sym c.is_inline.ensures ∙ c.if-is_inline.false
@@ -35,8 +35,8 @@ bit_of_node-requires-clause-inside g c = let fits = long_blocks c.args.g.now.blo
 pub returns-in_err-used-clause-cause : goal.returns-in_err-used-clause-cause
 returns-in_err-used-clause-cause g c =
     let live = c.live_block-block.ensures.place in
-    why_after g.D.Disk (λ k. k ≡ c.live_block-block.result) (IsLive c.args.g.now c.args.roots.now) c.args.cache.now c.args.cache.now c.bit_of_node.new.cache c.bit_of_node.result _ c.in_err-used.field-0.0
-    (λ k h. (c.node_of_bit.result, c.node_of_bit.ensures.in_range, h ∙ live)) (reads_same g.D.Disk c.args.cache.now) refl c.bit_of_node.ensures.cause c.in_err-used.was c.from_residual.ensures
+    why_after g.D.Disk (λ k. k ≡ c.live_block-block.result) (HoldsBit c.args.g.now c.args.roots.now c.args.bit) c.args.cache.now c.args.cache.now c.bit_of_node.new.cache c.bit_of_node.result _ c.in_err-used.field-0.0
+    (λ k h. holds_bit c.args.g.now c.args.roots.now c.args.bit c.node_of_bit.result k c.node_of_bit.ensures.node c.node_of_bit.ensures.in_range (h ∙ live)) (reads_same g.D.Disk c.args.cache.now) refl c.bit_of_node.ensures.cause c.in_err-used.was c.from_residual.ensures
 
 pub returns-clause-bit : goal.returns-clause-bit
 returns-clause-bit g c = λ tells.
@@ -46,7 +46,7 @@ returns-clause-bit g c = λ tells.
     c.in_ok-used.ensures.bit tells ∙ (λ i. bit_in 16 (content_in g.D.Disk c.args.cache.now (place i)) (at i)) ∙ sym (in_node c.args.g.now c.args.roots.now (content_in g.D.Disk c.args.cache.now) c.args.bit external)
 
 pub returns-clause-cause : goal.returns-clause-cause
-returns-clause-cause g c = why_passed g.D.Disk (IsLive c.args.g.now c.args.roots.now) _ _ _ c.in_ok-used.ensures.cause.passed
+returns-clause-cause g c = why_passed g.D.Disk (HoldsBit c.args.g.now c.args.roots.now c.args.bit) _ _ _ c.in_ok-used.ensures.cause.passed
 
 pub returns-then-is_inline-clause-inline : goal.returns-then-is_inline-clause-inline
 returns-then-is_inline-clause-inline g c = λ inline. (refl, refl)
