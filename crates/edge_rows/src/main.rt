@@ -2,7 +2,6 @@
 //! over a disk, a source, a sink and a clock in memory. `docs/TESTING.md` has the statements.
 #![tactic(auto)]
 
-mod bits;
 mod cuts;
 mod disks;
 mod host;
@@ -12,7 +11,6 @@ mod orders;
 mod pieces;
 mod places;
 mod row;
-mod script;
 mod streams;
 mod text;
 

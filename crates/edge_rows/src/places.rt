@@ -81,7 +81,7 @@ pub fn push_numbers(out: &mut String) -> Result<()> {
     Ok(())
 }
 
-pub const REFUSALS: [Refusal; 15] = [
+const REFUSALS: [Refusal; 15] = [
     Refusal::NoEntry,
     Refusal::BadDescriptor,
     Refusal::Busy,

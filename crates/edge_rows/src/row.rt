@@ -1,4 +1,3 @@
-use crate::bits::push_bits;
 use crate::cuts::{push_cuts, shown};
 use crate::disks::{push_disk, push_sure_disk};
 use crate::host::{
@@ -9,7 +8,6 @@ use crate::image::Image;
 use crate::nodes::{push_block, push_imap, push_node};
 use crate::orders::{clock_of, order, push_answer, sure_order};
 use crate::places::{push_geometry, push_numbers, push_words};
-use crate::script::{push_command, push_reply, push_word};
 use crate::streams::{push_clock, push_folder, push_sink, push_source};
 use crate::text::{byte, moments, number, number32, numbers, push_faults, unescaped, word};
 use anyhow::{Context, Result, ensure};
@@ -78,7 +76,6 @@ pub fn answer_row<R: Files<File = File> + AllocGlobal + Clock>(
         let is_done = change(rt, image, verb, rest)?
             || set(rt.alloc(), &mut row, verb, rest)?
             || write_script(rt.alloc(), &mut row, verb, text)?
-            || tell_script(rt.alloc(), &mut out, &row, verb, text, rest)?
             || tell(rt.alloc(), &mut out, &row, image, verb, rest)?
             || tell_part(rt.alloc(), &mut out, &row, image, verb, rest)?
             || change_host(rt, verb, rest)?
@@ -164,28 +161,6 @@ fn write_script(alloc: Global, row: &mut Row, verb: &str, text: &str) -> Result<
     Ok(true)
 }
 
-// Appends how the text of a script is read or written, where this is such a statement.
-fn tell_script(
-    alloc: Global,
-    out: &mut String,
-    row: &Row,
-    verb: &str,
-    text: &str,
-    words: &[&str],
-) -> Result<bool> {
-    let (_, rest) = text.split_once(' ').unwrap_or((text, ""));
-    match verb {
-        "command" => push_command(alloc, out, &row.script, rest)?,
-        "word" => {
-            let (what, bytes) = rest.split_once(' ').unwrap_or((rest, ""));
-            push_word(alloc, out, what, bytes)?;
-        }
-        "reply" => push_reply(alloc, out, &row.script, words)?,
-        _ => return Ok(false),
-    }
-    Ok(true)
-}
-
 // Appends what a call or a look at the image answers, where this is such a statement.
 fn tell(
     alloc: Global,
@@ -229,7 +204,6 @@ fn tell_part(
         "geometry" => push_geometry(out, words)?,
         "numbers" => push_numbers(out)?,
         "check_word" => writeln!(out, "  {:08x}", check_word(&row.script))?,
-        "bits" => push_bits(alloc, out, words)?,
         "disk" => push_disk(alloc, out, row, image, words)?,
         "sure_disk" => push_sure_disk(alloc, out, image, words)?,
         "source" => push_source(alloc, out, row, words)?,
