@@ -155,9 +155,13 @@ for size in 1024 2048 4096; do
 	check 0 "$root" '' run "size$size.img" -b "$size" <stat
 	check 8 '' 'edge: status 8 reason 1' run "size$size.img" <stat
 done
+check 0 'formatted 3991' '' format nodes.img -n 4000 -m 1
+check 0 "$root" '' run nodes.img <stat
+check 0 'formatted 4061115' '' format huge.img -n 4194304 -m 65536
+check 0 "$root" '' run huge.img <stat
 check 0 'formatted 3' '' format garbage.img -n 8 -m 1 <&-
 check 0 "$root" '' run garbage.img <stat
-for numbers in '-n 7 -m 1' '-n 8 -m 0' '-n 8 -m 2' '-n 4194305 -m 1' '-n 8 -m 1 -l 13' '-n 8 -m 1 -a 0' '-n 4000 -m 1'; do
+for numbers in '-n 7 -m 1' '-n 8 -m 0' '-n 8 -m 2' '-n 4194305 -m 1' '-n 8 -m 1 -l 13' '-n 8 -m 1 -a 0' '-n 8 -m 1 -i 117'; do
 	# shellcheck disable=SC2086
 	check 10 '' 'edge: status 10' format unmade.img $numbers <stat
 done
