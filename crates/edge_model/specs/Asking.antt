@@ -62,10 +62,11 @@ abbrev pub mask_after : ℕ → Asked → ℕ
 mask_after old (set_mask new) = if nat_lt event.greatest_mask new then old else new
 mask_after old command = old
 
--- a mask is refused exactly above the greatest
-abbrev pub AnswersMask : Asked → Answer → Type 0
-AnswersMask (set_mask new) answer = answer ≡ (if nat_lt event.greatest_mask new then a.No no.Invalid else a.Done)
-AnswersMask command answer = Unit {0}
+-- a mask is refused exactly above the greatest, and the one that is set is told
+abbrev pub AnswersMask : ℕ → Asked → Answer → Type 0
+AnswersMask now (set_mask new) answer = answer ≡ (if nat_lt event.greatest_mask new then a.No no.Invalid else a.Done)
+AnswersMask now mask answer = answer ≡ a.Number now
+AnswersMask now command answer = Unit {0}
 
 -- the points of a session's end, by its mask
 abbrev pub closing_points : ℕ → ℕ

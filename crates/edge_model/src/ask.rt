@@ -86,7 +86,7 @@ pub trait Ask {
         ensures two_points { reached self.new ≤ reached self.old + 2 }
         ensures guarded { guarded self.old → guarded self.new }
         ensures mask { OnOk result (mask self.new ≡ mask_after (mask self.old) (asked c.entry)) }
-        ensures mask_told { IfOk result (AnswersMask (asked c.entry)) }
+        ensures mask_told { IfOk result (AnswersMask (mask self.old) (asked c.entry)) }
         ensures mask_stays { may_set_mask (asked c.entry) ≡ false → mask self.new ≡ mask self.old }
         ensures opens { IfOk result
             (λ a. OpensAfter (asked c.entry) a (opens self.old) (opens self.new)) }
@@ -123,7 +123,7 @@ pub trait Ask {
             → result ≡ Err (Damaged d) → ⊥ }
         ensures guarded { guarded self.old → guarded self.new }
         ensures never_falls { reached self.old ≤ reached self.new }
-        ensures one_point { reached self.new ≤ reached self.old + 1 }
+        ensures one_point { reached self.new ≤ reached self.old + closing_points (mask self.old) }
         ensures closes { OnOk result
             (reached self.new ≡ reached self.old + closing_points (mask self.old)) }
         ensures mask { mask self.new ≡ mask self.old }
