@@ -10,3 +10,4 @@ pub mod ArriveLaws
 pub mod WritableLaws
 pub mod SpentLaws
 pub mod LinkedLaws
+pub mod ChangeLaws

@@ -1,14 +1,15 @@
 //! Laws over the definitions of `specs/`: functions without effects.
 
-ghost use Rattle.std.specs.Prelude.{◌≡◌, ◌≢◌, ◌<◌, ◌+◌, ℕ, true, List};
+ghost use Rattle.std.specs.Prelude.{◌≡◌, ◌≢◌, ◌<◌, ◌+◌, ◌∷◌, [], ℕ, true, false, replicate, List};
 ghost use Rattle.edge_base.specs.declared.form.Form.{Form};
 ghost use Rattle.edge_base.specs.declared.form.Form.TheVariants.{Plain};
 ghost use Rattle.edge_base.specs.declared.geometry.Request.{Request};
 ghost use Rattle.edge_base.specs.layout.Places.{IsGeometry, pointers_of, max_blocks_of, way_of};
 ghost use Rattle.edge_base.specs.tree.Positions.{positions_of_form};
+ghost use Rattle.edge_store.specs.Changed.{has_index, NodeChanged, NodeDirtied, KeepsContents};
 ghost use Rattle.edge_store.specs.Damages.{IsLinked};
 ghost use Rattle.edge_store.specs.Placed.{entry_at, pointer_at, block_at, data_block, HasPlaces, IsOnce};
-ghost use Rattle.edge_store.specs.View.{View, IsView, is_spot, is_new, is_whole, free_now};
+ghost use Rattle.edge_store.specs.View.{View, IsView, bytes, content_at, is_spot, is_new, is_whole, free_now};
 ghost use Rattle.edge_moves.specs.Sound.{numbered, IsSound, IsApart};
 ghost use Rattle.edge_moves.specs.Relinks.{Relinks};
 ghost use Rattle.edge_moves.specs.Renewal.{cost, EntryRenewed, PointerRenewed, WayRenewed};
@@ -57,4 +58,23 @@ pub fn blocks_made_new_take_what_they_cost()
     ensures pointer { (g : Request) (c v w : View) (form : Form) (n top i b : ℕ)
         → IsView g v → is_new c v top ≡ true → PointerRenewed g c v w form n top i b
         → free_now g c w + cost c v (pointer_at v form top i) ≡ free_now g c v }
+{}
+
+/// A data block that is made writable is a change at its node that writes it, or adds it with zeros
+/// in it. The others hold what they held.
+pub fn a_block_made_writable_changes_its_node()
+    ensures changed { (g : Request) (c v w : View) (n i : ℕ) (indices : List ℕ)
+        → IsView g v → i < max_blocks_of g → HasPlaces g v n indices
+        → IsMadeWritable g c v w n i indices → NodeChanged g v w n indices (i ∷ indices) }
+    ensures dirtied { (g : Request) (c v w : View) (n i : ℕ) (indices : List ℕ)
+        → IsView g v → i < max_blocks_of g → HasPlaces g v n indices
+        → IsMadeWritable g c v w n i indices
+        → NodeDirtied g c v w n indices (i ∷ indices) (i ∷ []) [] }
+    ensures contents { (g : Request) (c v w : View) (n i : ℕ) (indices : List ℕ)
+        → IsView g v → i < max_blocks_of g → HasPlaces g v n indices
+        → IsMadeWritable g c v w n i indices → KeepsContents g v w n indices }
+    ensures zeros { (g : Request) (c v w : View) (n i : ℕ) (indices : List ℕ)
+        → IsView g v → i < max_blocks_of g → HasPlaces g v n indices
+        → IsMadeWritable g c v w n i indices → has_index indices i ≡ false
+        → content_at w Plain (data_block g w n i) ≡ bytes (replicate g.block_size 0) }
 {}

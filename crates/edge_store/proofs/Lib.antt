@@ -8,3 +8,5 @@ pub mod RoomLaws
 pub mod DamageLaws
 pub mod CallLaws
 pub mod LinkLaws
+pub mod ChangedLaws
+pub mod NodeEffects

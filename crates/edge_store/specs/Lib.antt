@@ -7,4 +7,5 @@ pub mod Damages
 pub mod State
 pub mod Calls
 pub mod Effects
+pub mod Changed
 pub mod Told

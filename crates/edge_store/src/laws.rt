@@ -1,18 +1,20 @@
 //! Laws over the definitions of `specs/`: functions without effects.
 
-ghost use Rattle.std.specs.Prelude.{◌≡◌, ◌≢◌, ◌<◌, ℕ, ◌+◌, true, false, is_some, List, map, Option, Some, None};
+ghost use Rattle.std.specs.Prelude.{◌≡◌, ◌≢◌, ◌<◌, ℕ, ◌+◌, ◌++◌, [], true, false, is_some, List, map, Option, Some, None};
 ghost use Rattle.edge_base.specs.declared.damage.Damage.{Damage};
 ghost use Rattle.edge_base.specs.declared.form.Form.{Form};
+ghost use Rattle.edge_base.specs.declared.form.Form.TheVariants.{Plain};
 ghost use Rattle.edge_base.specs.declared.geometry.Request.{Request};
 ghost use Rattle.edge_base.specs.declared.node.Head.{Head};
 ghost use Rattle.edge_base.specs.layout.Places.{allocable_of, max_blocks_of, way_of};
 ghost use Rattle.edge_base.specs.tree.Positions.{Position, count_of, above_data, positions_of_form};
+ghost use Rattle.edge_store.specs.Changed.{has_index, SameIndices, NodeChanged, NodeDirtied, KeepsContents};
 ghost use Rattle.edge_store.specs.Counted.{Occupy};
 ghost use Rattle.edge_store.specs.Damages.{damage_at, damage_of_inode, IsDamage, IsLinked};
-ghost use Rattle.edge_store.specs.Effects.{IsFresh, Taken, Copied, BlockDropped, InodeMade, InodeDropped};
+ghost use Rattle.edge_store.specs.Effects.{IsFresh, Taken, Copied, BlockDropped, HeadSet, InodeMade, InodeDropped, BytesSet, put_in};
 ghost use Rattle.edge_store.specs.Frames.{KeepsChain, KeepsPointers, IsNoNodeOf};
 ghost use Rattle.edge_store.specs.Placed.{block_at, data_block, follow, nodes_on, HasPlaces, IsOnce};
-ghost use Rattle.edge_store.specs.View.{View, Block, Inode, IsView, entries_of_inode, with_block, with_inode, is_allocable, is_link, is_number, is_spot, is_used, is_new, free_now, free_after, free_inodes};
+ghost use Rattle.edge_store.specs.View.{View, Block, Inode, IsView, bytes, bytes_in, content_at, entries_of_inode, with_block, with_inode, is_allocable, is_link, is_number, is_spot, is_used, is_new, free_now, free_after, free_inodes};
 
 /// A data block is where its way leads, and the pointer nodes above it are those on the way.
 pub fn blocks_lie_on_their_ways()
@@ -163,4 +165,84 @@ pub fn spots_have_no_damage()
         → damage_at v form owner b ≡ None → is_spot v form owner b ≡ true }
     ensures none { (v : View) (form : Form) (owner b : ℕ)
         → is_spot v form owner b ≡ true → damage_at v form owner b ≡ None }
+{}
+
+/// Two changes at one node, one after the other, are one change. What is dirty then is what both
+/// have written or touched.
+pub fn changes_at_a_node_add_up()
+    ensures changed { (g : Request) (u v w : View) (n : ℕ) (first second third : List ℕ)
+        → NodeChanged g u v n first second → NodeChanged g v w n second third
+        → NodeChanged g u w n first third }
+    ensures dirtied { (g : Request) (c u v w : View) (n : ℕ) (first second third : List ℕ)
+        (writes removes more_writes more_removes : List ℕ)
+        → NodeDirtied g c u v n first second writes removes
+        → NodeDirtied g c v w n second third more_writes more_removes
+        → NodeDirtied g c u w n first third (writes ++ more_writes) (removes ++ more_removes) }
+{}
+
+/// It does not matter in which order, or how often, a list names the data blocks of a node.
+pub fn lists_of_the_same_indices_say_the_same()
+    ensures places { (g : Request) (v : View) (n : ℕ) (one two : List ℕ)
+        → SameIndices one two → HasPlaces g v n one → HasPlaces g v n two }
+    ensures once { (g : Request) (v : View) (n : ℕ) (one two : List ℕ)
+        → SameIndices one two → IsOnce g v n one → IsOnce g v n two }
+    ensures changed { (g : Request) (v w : View) (n : ℕ) (old new old_too new_too : List ℕ)
+        → SameIndices old old_too → SameIndices new new_too
+        → NodeChanged g v w n old new → NodeChanged g v w n old_too new_too }
+    ensures dirtied { (g : Request) (c v w : View) (n : ℕ) (old new writes removes : List ℕ)
+        (old_too new_too writes_too removes_too : List ℕ)
+        → SameIndices old old_too → SameIndices new new_too
+        → SameIndices writes writes_too → SameIndices removes removes_too
+        → NodeDirtied g c v w n old new writes removes
+        → NodeDirtied g c v w n old_too new_too writes_too removes_too }
+{}
+
+/// A change at a node that does nothing, where it has the shape of a node.
+pub fn a_node_may_stay_as_it_is()
+    ensures changed { (g : Request) (v : View) (n : ℕ) (indices : List ℕ)
+        → HasPlaces g v n indices → IsOnce g v n indices → NodeChanged g v v n indices indices }
+    ensures dirtied { (g : Request) (c v : View) (n : ℕ) (indices : List ℕ)
+        → HasPlaces g v n indices → IsOnce g v n indices
+        → NodeDirtied g c v v n indices indices [] [] }
+{}
+
+/// Another head moves no block of its node, and changes none.
+pub fn a_head_that_is_set_moves_no_block()
+    ensures changed { (g : Request) (v w : View) (n : ℕ) (head : Head) (indices : List ℕ)
+        → HasPlaces g v n indices → IsOnce g v n indices
+        → HeadSet v w n head → NodeChanged g v w n indices indices }
+    ensures dirtied { (g : Request) (c v w : View) (n : ℕ) (head : Head) (indices : List ℕ)
+        → HasPlaces g v n indices → IsOnce g v n indices
+        → HeadSet v w n head → NodeDirtied g c v w n indices indices [] [] }
+    ensures contents { (g : Request) (v w : View) (n : ℕ) (head : Head) (indices : List ℕ)
+        → HasPlaces g v n indices → IsOnce g v n indices
+        → HeadSet v w n head → KeepsContents g v w n indices }
+{}
+
+/// Bytes that are set in a data block move no block of the node, and change that one alone.
+pub fn bytes_that_are_set_move_no_block()
+    ensures changed { (g : Request) (v w : View) (n i at : ℕ) (new indices : List ℕ)
+        → HasPlaces g v n indices → IsOnce g v n indices → has_index indices i ≡ true
+        → BytesSet v w (data_block g v n i) at new → NodeChanged g v w n indices indices }
+    ensures dirtied { (g : Request) (c v w : View) (n i at : ℕ) (new indices : List ℕ)
+        → HasPlaces g v n indices → IsOnce g v n indices → has_index indices i ≡ true
+        → BytesSet v w (data_block g v n i) at new → NodeDirtied g c v w n indices indices [] [] }
+    ensures set { (g : Request) (v w : View) (n i at : ℕ) (new indices : List ℕ)
+        → HasPlaces g v n indices → IsOnce g v n indices → has_index indices i ≡ true
+        → BytesSet v w (data_block g v n i) at new → content_at w Plain (data_block g w n i)
+        ≡ bytes (put_in (bytes_in (content_at v Plain (data_block g v n i))) at new) }
+    ensures others { (g : Request) (v w : View) (n i at : ℕ) (new indices : List ℕ)
+        → HasPlaces g v n indices → IsOnce g v n indices → has_index indices i ≡ true
+        → BytesSet v w (data_block g v n i) at new
+        → (k : ℕ) → has_index indices k ≡ true → k ≢ i
+        → content_at w Plain (data_block g w n k) ≡ content_at v Plain (data_block g v n k) }
+{}
+
+/// An inode that is made or dropped is a node without blocks.
+pub fn inodes_come_and_go_without_blocks()
+    ensures made { (g : Request) (v w : View) (n : ℕ) (head : Head)
+        → InodeMade g v w head (Some n) → NodeChanged g v w n [] [] }
+    ensures dropped { (g : Request) (v w : View) (n : ℕ)
+        → InodeDropped v w n → NodeChanged g v w n [] [] }
+    ensures dirtied { (g : Request) (c v w : View) (n : ℕ) → NodeDirtied g c v w n [] [] [] [] }
 {}
