@@ -47,7 +47,7 @@ some_slot size name_max long short = (le-div_iff_mul-le {k = 4 + name_max} {x = 
 behind : (blocks first : ℕ) → 3 ≤ blocks - first → first ≤ blocks
 behind blocks first some = omega arith
 
-limits : (g : Request) → bad_geometry g ≡ None → IsUsable g
+pub limits : (g : Request) → bad_geometry g ≡ None → IsUsable g
 unfolding bad_geometry
 limits g e =
     let size = kept (not (is_block_size g.block_size)) BlockSize _ e in

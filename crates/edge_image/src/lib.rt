@@ -8,7 +8,7 @@ ghost use Rattle.edge_base.specs.declared.geometry.Request.{Request};
 ghost use Rattle.edge_base.specs.declared.node.Head.{Head};
 ghost use Rattle.edge_base.specs.declared.node.Master.{Master};
 ghost use Rattle.edge_base.specs.tree.Nodes.{Node};
-ghost use Rattle.edge_base.specs.layout.Places.{allocable_of};
+ghost use Rattle.edge_base.specs.layout.Places.{IsGeometry, allocable_of};
 ghost use Rattle.edge_base.specs.tree.Positions.{count_of};
 ghost use Rattle.edge_base.specs.layout.Spelling.{master_in};
 ghost use Rattle.edge_disk.specs.Image.{Image};
@@ -69,6 +69,12 @@ pub fn sound_is_ready()
 /// An image opens to one tree alone.
 pub fn image_determines_tree()
     ensures { (image : Image) (t u : Tree) → OpensTo image t → OpensTo image u → t ≡ u }
+{}
+
+/// A view stands for one tree alone.
+pub fn view_determines_tree()
+    ensures { (g : Request) (v : View) (t u : Tree) → IsGeometry g → IsTree g t → IsTree g u
+        → StandsFor g v t → StandsFor g v u → t ≡ u }
 {}
 
 /// An image that has the same blocks opens to the same tree.

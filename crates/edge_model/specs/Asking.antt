@@ -1,6 +1,5 @@
 -- What asking a command does to the object that answers it.
-use Rattle.std.specs.Prelude.{◌≡◌, ◌≤◌, ◌<◌, ℕ, ◌+◌, ◌==◌, ◌||◌, ◌&&◌, not, Bool, true, false, nat_lt, if◌then◌else◌, List, length, get_or, Option, Some, None, Result, Err, OnOk}
-use Rattle.edge_base.specs.declared.geometry.Request.{Request}
+use Rattle.std.specs.Prelude.{◌≡◌, ◌≤◌, ◌<◌, ℕ, ◌+◌, ◌==◌, ◌||◌, not, Bool, true, false, nat_lt, if◌then◌else◌, List, length, get_or, Option, Some, None, Result, OnOk}
 use Rattle.edge_base.specs.declared.damage.Damage.{Damage}
 use Rattle.edge_base.specs.declared.refusal.Refusal.TheVariants as no
 use Rattle.edge_base.specs.commands.Events as event

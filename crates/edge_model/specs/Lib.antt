@@ -1,4 +1,5 @@
 pub mod Asked
+pub mod Bytes
 pub mod Tree
 pub mod Walk
 pub mod State

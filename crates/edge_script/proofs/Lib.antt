@@ -5,3 +5,4 @@ pub mod FlagLaws
 pub mod CommandLaws
 pub mod SpellingLaws
 pub mod CodeLaws
+pub mod LimitLaws

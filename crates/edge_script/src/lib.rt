@@ -13,7 +13,9 @@ mod verb;
 
 pub use command::{BadLine, read_line};
 pub use hexadecimal::read_hex;
-pub use laws::{each_command_is_spelled, one_command, reads_what_is_spelled};
+pub use laws::{
+    each_command_is_spelled, one_command, reads_what_is_spelled, spelled_commands_are_within_limits,
+};
 pub use number::read_number;
 pub use path::{read_path, write_path};
 pub use reply::{write_bad, write_reply};

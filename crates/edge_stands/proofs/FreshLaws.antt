@@ -24,8 +24,8 @@ use Rattle.edge_model.proofs.Members.{IsAmong, among, is_had, among_filter, from
 use Rattle.edge_model.proofs.Ways.{blocks_of, is_on, is_there}
 use Rattle.edge_model.proofs.SlotLaws.{is_marked_in, piece_starts}
 use Rattle.edge_model.proofs.DirtyLaws.{block_there, there_by_block}
-use Rattle.edge_steps.specs.Bytes.{IsOfBytes}
-use Rattle.edge_steps.specs.Fresh.{fresh_of}
+use Rattle.edge_model.specs.Bytes.{IsOfBytes}
+use Rattle.edge_steps.specs.Fresh.{fresh_positions_of}
 use Rattle.edge_steps.specs.Listed.{IsListed}
 use Rattle.edge_steps.specs.Rules.{HasTrees}
 use Rattle.edge_steps.proofs.ChainLaws.{IsAbove, single, double, is_above, chain_number, indirect_of}
@@ -34,7 +34,8 @@ use Rattle.edge_steps.proofs.PlanLaws.{tree_then, some_bytes}
 use Rattle.edge_steps.proofs.TreeLaws.{each_sound}
 use Rattle.edge_stands.specs.Session.{StandForState}
 use Rattle.edge_stands.proofs.NodeLaws.{is_of, of_tree}
-use Rattle.edge_stands.proofs.HeadLaws.{no_blocks, in_numbers}
+use Rattle.edge_store.proofs.NodeEffects.{no_blocks}
+use Rattle.edge_stands.proofs.BecomeLaws.{in_numbers}
 use Rattle.edge_stands.proofs.SpaceLaws.{fits_free}
 
 -- ---- indices
@@ -157,7 +158,7 @@ module _ (g : Request) (c w : View) (s : State) (e : Edit) (st : StandForState g
   filter_same f h [] same = refl
   filter_same f h (p ∷ ps) same = λ i. cond (same p i) (p ∷ filter_same f h ps same i) (filter_same f h ps same i)
 
-  pub counts_agree : fresh_count g c w e.writes e.removes ≡ count_of (fresh_of g s e)
+  pub counts_agree : fresh_count g c w e.writes e.removes ≡ count_of (fresh_positions_of g s e)
   unfolding fresh_count
   counts_agree = ap count_of (filter_same (λ p. is_there_after g c w e.writes e.removes p && not (is_dirty g c w p)) (λ p. has (tree_positions g e.tree) p && not (has s.dirty p)) (touched g (λ p. false) e.writes e.removes) test_is)
 

@@ -1,5 +1,5 @@
 -- A change at one node leaves a view standing for the other nodes.
-use Rattle.std.proofs.Common.{◌≡◌, ◌≢◌, ◌↔◌, ℕ, ◌<◌, ◌==◌, ◌&&◌, not, Bool, true, false, cond, List, [], ◌∷◌, is_some, inl, inr, ⊎_elim, Option, Some, None, refl, sym, ap, ◌∙◌, subst, eqb-true, eq-eqb}
+use Rattle.std.proofs.Common.{◌≡◌, ◌≢◌, ◌↔◌, ℕ, ◌<◌, ◌==◌, ◌&&◌, not, true, false, cond, List, [], ◌∷◌, is_some, ◌⊎◌, inl, inr, ⊎_elim, Option, Some, None, refl, sym, ap, ◌∙◌, subst, eqb-true, eq-eqb}
 use Rattle.std.specs.List.{list_any}
 use Rattle.std.proofs.lemmas.Bool.{false≢true, cases_eq, ne_eqb, or_cases}
 use Rattle.edge_base.specs.declared.form.Form.{Form}
@@ -18,7 +18,8 @@ use Rattle.edge_image.specs.Opens.{StandsFor}
 use Rattle.edge_steps.proofs.NodeLaws.{NodeSet, node_set}
 use Rattle.edge_steps.proofs.SlotLaws.{none_some, some_same}
 use Rattle.edge_steps.proofs.ChainLaws.{chain_number}
-use Rattle.edge_stands.specs.Stands.{NodeStands, StandsWith, with_links, IsOwn, StandsAlone, NodeChanged, IsTied, IsTiedAt}
+use Rattle.edge_store.specs.Fresh.{is_dirty}
+use Rattle.edge_stands.specs.Stands.{NodeStands, StandsWith, with_links, StandsAlone}
 
 -- ---- links that are those of the names
 
@@ -38,6 +39,15 @@ with_links_of g v t = (
     each = s.each;
   }),
 )
+
+-- other links that are the same at the numbers of the tree
+pub agreed_links : (g : Request) (v : View) (t : Tree) (links : ℕ → ℕ) → StandsWith g v t links → ((n : ℕ) → is_some (t n) ≡ true → links n ≡ links_of g t n) → StandsFor g v t
+agreed_links g v t links s agree = (with_links_of g v t).1 (record {
+  numbers = s.numbers;
+  nodes = λ n node is. subst (NodeStands g v n node) (agree n (ap (λ (o : Option Node). is_some o) is)) (s.nodes n node is);
+  once = s.once;
+  each = s.each;
+})
 
 -- ---- positions of a node and of the tree
 
@@ -139,13 +149,29 @@ module _ (g : Request) (v w : View) (x : ℕ) (node : Node) (holds : HoldsNode g
 
 -- ---- another node at one number
 
+-- a position of number n in the tree
+abbrev pub IsOwn : Request → Tree → ℕ → Position → Type 0
+IsOwn g t n p = (p.number ≡ n) × (has (tree_positions g t) p ≡ true)
+
+-- From v to w number n has come to stand for another node, told by the positions of the trees.
+pub record OwnChanged (g : Request) (v w : View) (t : Tree) (n : ℕ) (node : Option Node) (links : ℕ) : Type 0 where
+  pub stands : StandsAlone g w n node links
+  pub once : (p q : Position) → IsOwn g (with_node t n node) n p → IsOwn g (with_node t n node) n q → block_at g w p ≡ block_at g w q → p ≡ q
+  pub inodes : (x : ℕ) → x ≢ n → w.inodes x ≡ v.inodes x
+  pub blocks : (b : ℕ) → is_used v b ≡ true → ((q : Position) → IsOwn g t n q → block_at g v q ≢ b) → w.blocks b ≡ v.blocks b
+  pub taken : (p : Position) → IsOwn g (with_node t n node) n p
+      → (is_used v (block_at g w p) ≡ false) ⊎ ((q : Position) × IsOwn g t n q × (block_at g v q ≡ block_at g w p))
+  pub left : (b : ℕ) → is_used w b ≡ true
+      → ((p : Position) × IsOwn g (with_node t n node) n p × (block_at g w p ≡ b))
+      ⊎ ((is_used v b ≡ true) × ((q : Position) → IsOwn g t n q → block_at g v q ≢ b))
+
 links_here : (links : ℕ → ℕ) (n now : ℕ) → with_links links n now n ≡ now
 links_here links n now = ap (λ b. cond b now (links n)) (eq-eqb n n refl)
 
 links_there : (links : ℕ → ℕ) (n now x : ℕ) → (x ≡ n → ⊥) → with_links links n now x ≡ links x
 links_there links n now x other = ap (λ b. cond b now (links x)) (ne_eqb x n other)
 
-module _ (g : Request) (v w : View) (t : Tree) (links : ℕ → ℕ) (n : ℕ) (new : Option Node) (now : ℕ) (s : StandsWith g v t links) (c : NodeChanged g v w t n new now) where
+module _ (g : Request) (v w : View) (t : Tree) (links : ℕ → ℕ) (n : ℕ) (new : Option Node) (now : ℕ) (s : StandsWith g v t links) (c : OwnChanged g v w t n new now) where
   abbrev then : Tree
   then = with_node t n new
 
@@ -153,7 +179,7 @@ module _ (g : Request) (v w : View) (t : Tree) (links : ℕ → ℕ) (n : ℕ) (
   own_set = node_set t n new
 
   -- a position of another number is in both trees or in neither
-  was_there : (p : Position) → (p.number ≡ n → ⊥) → has (tree_positions g then) p ≡ true → has (tree_positions g t) p ≡ true
+  pub was_there : (p : Position) → (p.number ≡ n → ⊥) → has (tree_positions g then) p ≡ true → has (tree_positions g t) p ≡ true
   was_there p other h = let o = is_of g then p h in of_tree g t p.number o.node p o.is_number (sym (own_set.others p.number other) ∙ o.there) o.position
 
   is_there_now : (p : Position) → (p.number ≡ n → ⊥) → has (tree_positions g t) p ≡ true → has (tree_positions g then) p ≡ true
@@ -235,36 +261,11 @@ module _ (g : Request) (v w : View) (t : Tree) (links : ℕ → ℕ) (n : ℕ) (
         (c.left b used);
   }
 
-  -- the dirty positions stay those whose block is new
-  pub then_tied : (committed : View) (dirty after : List Position) → IsTied g committed v t dirty → IsTiedAt g committed w then n dirty after → IsTied g committed w then after
-  then_tied committed dirty after tied at p = ⊎_elim
-      (λ (own : p.number ≡ n). at.own p own)
-      (λ (other : p.number ≡ n → ⊥). at.others p other ∙ tied p ∙ by_tree p other (has (tree_positions g t) p) refl)
-      (cases_eq p.number n)
-    where
-      there_alike : (p : Position) → (p.number ≡ n → ⊥) → (b : Bool) → has (tree_positions g t) p ≡ b → has (tree_positions g then) p ≡ b
-      there_alike p other true is = is_there_now p other is
-      there_alike p other false is = not_there (has (tree_positions g then) p) (λ now. false≢true (sym is ∙ was_there p other now))
-        where
-          not_there : (b : Bool) → (b ≡ true → ⊥) → b ≡ false
-          not_there true h = absurd (h refl)
-          not_there false h = refl
-
-      by_tree : (p : Position) → (p.number ≡ n → ⊥) → (b : Bool) → has (tree_positions g t) p ≡ b
-          → (has (tree_positions g t) p && is_new committed v (block_at g v p)) ≡ (has (tree_positions g then) p && is_new committed w (block_at g w p))
-      by_tree p other true is =
-          let now = is_there_now p other is in
-          let block = other_block p other is in
-          let o = is_of g t p is in
-          let kept = others_kept p.number o.node other o.is_number o.there in
-          let used : is_used w (block_at g v p) ≡ is_used v (block_at g v p) = ap (λ (b : Option Block). is_some b) (kept.blocks p refl o.position) in
-          is_new_alike (has (tree_positions g t) p) (has (tree_positions g then) p) (is ∙ sym now) (used_alike used ∙ ap (is_new committed w) (sym block))
-        where
-          is_new_alike : (a b : Bool) → a ≡ b → is_new committed v (block_at g v p) ≡ is_new committed w (block_at g w p) → (a && is_new committed v (block_at g v p)) ≡ (b && is_new committed w (block_at g w p))
-          is_new_alike a b one two = λ i. one i && two i
-
-          used_alike : is_used w (block_at g v p) ≡ is_used v (block_at g v p) → is_new committed v (block_at g v p) ≡ is_new committed w (block_at g v p)
-          used_alike used = ap (λ b. b && not (is_used committed (block_at g v p))) (sym used)
-      by_tree p other false is =
-          let now = there_alike p other false is in
-          ap (λ b. b && is_new committed v (block_at g v p)) is ∙ sym (ap (λ b. b && is_new committed w (block_at g w p)) now)
+  -- a position of another number is dirty where it was
+  pub other_dirty : (committed : View) (p : Position) → (p.number ≡ n → ⊥) → has (tree_positions g then) p ≡ true → is_dirty g committed w p ≡ is_dirty g committed v p
+  other_dirty committed p other h =
+      let was = was_there p other h in
+      let o = is_of g t p was in
+      let kept = others_kept p.number o.node other o.is_number o.there in
+      ap (is_new committed w) (other_block p other was)
+      ∙ ap (λ (b : Option Block). is_some b && not (is_used committed (block_at g v p))) (kept.blocks p refl o.position)

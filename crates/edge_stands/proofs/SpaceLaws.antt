@@ -1,24 +1,26 @@
 -- The room of two views that stand for a state.
-use Rattle.std.proofs.Common.{◌≡◌, ◌↔◌, ◌+◌, ◌-◌, ◌≤◌, not, true, is_some, Option, Some, None, refl, sym, ap, ◌∙◌, arith}
+use Rattle.std.proofs.Common.{◌≡◌, ◌↔◌, ◌+◌, ◌-◌, ◌≤◌, ◌&&◌, nat_lt, not, true, is_some, Option, Some, None, refl, sym, ap, ◌∙◌, arith}
 use Rattle.std.specs.Prelude.{is_none}
-use Rattle.std.proofs.lemmas.Bool.{and_parts, and_from, leb-true, le-leb}
+use Rattle.std.proofs.lemmas.Bool.{and_parts, and_from, leb-true, le-leb, ltb-true, lt-ltb}
 use Rattle.edge_base.specs.declared.geometry.Request.{Request}
+use Rattle.edge_base.specs.commands.Events.{has_event, full}
 use Rattle.edge_base.specs.layout.Places.{allocable_of}
 use Rattle.edge_base.specs.tree.Positions.{Position, has, count_of}
 use Rattle.edge_store.specs.Counted.{Occupy}
 use Rattle.edge_store.specs.View.{View, is_used, is_new, free_now, free_after, free_inodes}
 use Rattle.edge_store.specs.Placed.{block_at}
+use Rattle.edge_store.proofs.ChangedLaws.{same_truth}
 use Rattle.edge_store.proofs.CountLaws.{free_now-positions, free_after-positions}
 use Rattle.edge_store.proofs.RoomLaws.{inside}
 use Rattle.edge_image.proofs.AlikeLaws.{count_alike}
 use Rattle.edge_model.specs.Asked.{room}
 use Rattle.edge_model.specs.Laws.{IsDirtyUpwards}
-use Rattle.edge_model.specs.State.{State, Edit, fits, in_use}
+use Rattle.edge_model.specs.State.{State, Edit, fits, gains_by_point, in_use}
 use Rattle.edge_model.specs.Step.{room_of}
 use Rattle.edge_model.specs.Tree.{Tree, tree_positions, free_numbers}
 use Rattle.edge_image.specs.Opens.{StandsFor}
 use Rattle.edge_image.proofs.RoomLaws.{occupied}
-use Rattle.edge_steps.specs.Fresh.{fresh_of}
+use Rattle.edge_steps.specs.Fresh.{fresh_positions_of}
 use Rattle.edge_steps.proofs.FreshLaws.{fits_fresh}
 use Rattle.edge_stands.specs.Session.{StandForState}
 
@@ -74,9 +76,18 @@ space_is g c w s st =
     let numbers = numbers_are g w s.tree st.tree in
     λ i. room (record { now = now i; after = after i; blocks = allocable_of g; free_inodes = numbers i; inodes = g.inodes })
 
-pub fits_free : (g : Request) (committed working : View) (s : State) (e : Edit) → StandForState g committed working s → IsDirtyUpwards g s → (fits g s e ≡ true) ↔ (count_of (fresh_of g s e) + e.reserve ≤ free_now g committed working)
+pub fits_free : (g : Request) (committed working : View) (s : State) (e : Edit) → StandForState g committed working s → IsDirtyUpwards g s → (fits g s e ≡ true) ↔ (count_of (fresh_positions_of g s e) + e.reserve ≤ free_now g committed working)
 fits_free g c w s e st upwards =
     let one = free_is g c w s st in (
-      (λ fit. let low = leb-true (in_use g s.committed s.dirty + count_of (fresh_of g s e) + e.reserve) (allocable_of g) (sym (fits_fresh g s e upwards) ∙ fit) in omega arith),
-      (λ room. fits_fresh g s e upwards ∙ le-leb (in_use g s.committed s.dirty + count_of (fresh_of g s e) + e.reserve) (allocable_of g) (omega arith)),
+      (λ fit. let low = leb-true (in_use g s.committed s.dirty + count_of (fresh_positions_of g s e) + e.reserve) (allocable_of g) (sym (fits_fresh g s e upwards) ∙ fit) in omega arith),
+      (λ room. fits_fresh g s e upwards ∙ le-leb (in_use g s.committed s.dirty + count_of (fresh_positions_of g s e) + e.reserve) (allocable_of g) (omega arith)),
     )
+
+-- a point gains blocks where more will be free after it
+pub gains_is : (g : Request) (committed working : View) (s : State) → StandForState g committed working s → gains_by_point g s ≡ (has_event s.mask full && nat_lt (free_now g committed working) (free_after g working))
+gains_is g c w s st =
+    let one = free_is g c w s st in
+    let two = after_is g c w s st in
+    ap (λ b. has_event s.mask full && b) (same_truth (nat_lt (count_of (tree_positions g s.tree)) (in_use g s.committed s.dirty)) (nat_lt (free_now g c w) (free_after g w))
+    (λ h. let less = ltb-true (count_of (tree_positions g s.tree)) (in_use g s.committed s.dirty) h in lt-ltb (free_now g c w) (free_after g w) (omega arith))
+    (λ h. let less = ltb-true (free_now g c w) (free_after g w) h in lt-ltb (count_of (tree_positions g s.tree)) (in_use g s.committed s.dirty) (omega arith)))

@@ -9,7 +9,7 @@ use Rattle.edge_model.specs.Laws.{IsDirtyUpwards}
 use Rattle.edge_model.specs.State.{State, Edit, dirty_of, in_use, fits}
 use Rattle.edge_model.specs.Tree.{tree_positions}
 use Rattle.edge_model.proofs.Members.{IsAmong, among, is_had, among_append, among_left, among_right, among_filter, from_filter, among_flat_map, from_flat_map}
-use Rattle.edge_steps.specs.Fresh.{fresh_of}
+use Rattle.edge_steps.specs.Fresh.{fresh_positions_of}
 
 same_truth : (a b : Bool) → (a ≡ true → b ≡ true) → (b ≡ true → a ≡ true) → a ≡ b
 same_truth true b one two = sym (one refl)
@@ -19,7 +19,7 @@ same_truth false false one two = refl
 -- ---- what is touched
 
 -- fewer positions count as dirty, more are touched
-touched_more : (g : Request) (is_dirty : Position → Bool) (writes removes : List Position) (p : Position) → IsAmong (touched g is_dirty writes removes) p → IsAmong (touched g (λ q. false) writes removes) p
+pub touched_more : (g : Request) (is_dirty : Position → Bool) (writes removes : List Position) (p : Position) → IsAmong (touched g is_dirty writes removes) p → IsAmong (touched g (λ q. false) writes removes) p
 touched_more g is_dirty writes removes p h = ⊎_elim
     (λ w. among_left writes (all_ancestors g (removes ++ filter (λ q. not false) writes)) p w)
     (λ a.
@@ -31,7 +31,7 @@ touched_more g is_dirty writes removes p h = ⊎_elim
     (among_append writes (all_ancestors g (removes ++ filter (λ q. not (is_dirty q)) writes)) p h)
 
 -- what is not dirty is touched either way, where the ancestors of dirty positions are dirty
-touched_clean : (g : Request) (s : State) (writes removes : List Position) (p : Position) → IsDirtyUpwards g s → has s.dirty p ≡ false → IsAmong (touched g (λ q. false) writes removes) p → IsAmong (touched g (has s.dirty) writes removes) p
+pub touched_clean : (g : Request) (s : State) (writes removes : List Position) (p : Position) → IsDirtyUpwards g s → has s.dirty p ≡ false → IsAmong (touched g (λ q. false) writes removes) p → IsAmong (touched g (has s.dirty) writes removes) p
 touched_clean g s writes removes p upwards clean h = ⊎_elim
     (λ w. among_left writes (all_ancestors g (removes ++ filter (λ q. not (has s.dirty q)) writes)) p w)
     (λ a.
@@ -51,21 +51,21 @@ touched_clean g s writes removes p upwards clean h = ⊎_elim
 abbrev newly_dirty : Request → State → Edit → List Position
 newly_dirty g s e = filter (λ p. not (has s.dirty p)) (dirty_of g s e)
 
-newly_fresh : (g : Request) (s : State) (e : Edit) (p : Position) → has (newly_dirty g s e) p ≡ true → has (fresh_of g s e) p ≡ true
+newly_fresh : (g : Request) (s : State) (e : Edit) (p : Position) → has (newly_dirty g s e) p ≡ true → has (fresh_positions_of g s e) p ≡ true
 newly_fresh g s e p h =
     let new = from_filter (λ q. not (has s.dirty q)) (dirty_of g s e) p (among (newly_dirty g s e) p h) in
     let clean = not-true (has s.dirty p) new.1 in
     let after = from_filter (has (tree_positions g e.tree)) (s.dirty ++ touched g (has s.dirty) e.writes e.removes) p new.0 in
-    is_had (fresh_of g s e) p (among_filter (λ q. has (tree_positions g e.tree) q && not (has s.dirty q)) (touched g (λ q. false) e.writes e.removes) p
+    is_had (fresh_positions_of g s e) p (among_filter (λ q. has (tree_positions g e.tree) q && not (has s.dirty q)) (touched g (λ q. false) e.writes e.removes) p
     (⊎_elim
     (λ old. absurd (false≢true (sym clean ∙ is_had s.dirty p old)))
     (λ t. touched_more g (has s.dirty) e.writes e.removes p t)
     (among_append s.dirty (touched g (has s.dirty) e.writes e.removes) p after.0))
     (and_from (has (tree_positions g e.tree) p) (not (has s.dirty p)) after.1 new.1))
 
-fresh_newly : (g : Request) (s : State) (e : Edit) (p : Position) → IsDirtyUpwards g s → has (fresh_of g s e) p ≡ true → has (newly_dirty g s e) p ≡ true
+fresh_newly : (g : Request) (s : State) (e : Edit) (p : Position) → IsDirtyUpwards g s → has (fresh_positions_of g s e) p ≡ true → has (newly_dirty g s e) p ≡ true
 fresh_newly g s e p upwards h =
-    let new = from_filter (λ q. has (tree_positions g e.tree) q && not (has s.dirty q)) (touched g (λ q. false) e.writes e.removes) p (among (fresh_of g s e) p h) in
+    let new = from_filter (λ q. has (tree_positions g e.tree) q && not (has s.dirty q)) (touched g (λ q. false) e.writes e.removes) p (among (fresh_positions_of g s e) p h) in
     let both = and_parts (has (tree_positions g e.tree) p) (not (has s.dirty p)) new.1 in
     let clean = not-true (has s.dirty p) both.1 in
     is_had (newly_dirty g s e) p (among_filter (λ q. not (has s.dirty q)) (dirty_of g s e) p
@@ -74,14 +74,14 @@ fresh_newly g s e p upwards h =
     both.0)
     both.1)
 
-pub dirty_counted : (g : Request) (s : State) (e : Edit) → IsDirtyUpwards g s → count_of (dirty_of g s e ++ s.dirty) ≡ count_of (fresh_of g s e) + count_of s.dirty
+pub dirty_counted : (g : Request) (s : State) (e : Edit) → IsDirtyUpwards g s → count_of (dirty_of g s e ++ s.dirty) ≡ count_of (fresh_positions_of g s e) + count_of s.dirty
 dirty_counted g s e upwards =
     let whole = count_of-append (dirty_of g s e) s.dirty in
-    let same = count_of-from_has (newly_dirty g s e) (fresh_of g s e) (λ p. same_truth (has (newly_dirty g s e) p) (has (fresh_of g s e) p) (newly_fresh g s e p) (fresh_newly g s e p upwards)) in
+    let same = count_of-from_has (newly_dirty g s e) (fresh_positions_of g s e) (λ p. same_truth (has (newly_dirty g s e) p) (has (fresh_positions_of g s e) p) (newly_fresh g s e p) (fresh_newly g s e p upwards)) in
     omega arith
 
 -- the change fits where the fresh positions and the reserve are at most what is free
-pub fits_fresh : (g : Request) (s : State) (e : Edit) → IsDirtyUpwards g s → fits g s e ≡ nat_le (in_use g s.committed s.dirty + count_of (fresh_of g s e) + e.reserve) (allocable_of g)
+pub fits_fresh : (g : Request) (s : State) (e : Edit) → IsDirtyUpwards g s → fits g s e ≡ nat_le (in_use g s.committed s.dirty + count_of (fresh_positions_of g s e) + e.reserve) (allocable_of g)
 fits_fresh g s e upwards =
     let counted = dirty_counted g s e upwards in
-    ap (λ n. nat_le n (allocable_of g)) (let same : in_use g s.committed (dirty_of g s e ++ s.dirty) + e.reserve ≡ in_use g s.committed s.dirty + count_of (fresh_of g s e) + e.reserve = omega arith in same)
+    ap (λ n. nat_le n (allocable_of g)) (let same : in_use g s.committed (dirty_of g s e ++ s.dirty) + e.reserve ≡ in_use g s.committed s.dirty + count_of (fresh_positions_of g s e) + e.reserve = omega arith in same)

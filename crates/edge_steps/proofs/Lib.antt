@@ -21,3 +21,6 @@ pub mod SessionLaws
 pub mod FreshLaws
 pub mod ListLaws
 pub mod ListPlans
+pub mod PointLaws
+pub mod NamingLaws
+pub mod SetLaws

@@ -33,7 +33,7 @@ use Rattle.edge_model.proofs.SlotLaws.{found_within}
 use Rattle.edge_model.proofs.DirtyLaws.{IsCompletePlan, IsRemovedPlan}
 use Rattle.edge_model.proofs.CompleteLaws.{each_complete, slot_within}
 use Rattle.edge_model.proofs.RemoveLaws.{each_removed}
-use Rattle.edge_steps.specs.Bytes.{IsOfBytes}
+use Rattle.edge_model.specs.Bytes.{IsOfBytes}
 use Rattle.edge_steps.specs.Rules.{HasTrees}
 use Rattle.edge_steps.specs.Listed.{IsListed}
 use Rattle.edge_steps.proofs.SlotLaws.{slot_in, none_some, some_same}

@@ -21,7 +21,7 @@ use Rattle.edge_model.proofs.Plans.{Gives, gives_ok, gives_none, gives_after, gi
 use Rattle.edge_model.proofs.Changes.{passes, is_some_of, none_is, not_false}
 use Rattle.edge_model.proofs.SlotLaws.{no_pieces}
 use Rattle.edge_model.proofs.WalkLaws.{in_directory, walk_in_directory}
-use Rattle.edge_steps.specs.Bytes.{AreBytes}
+use Rattle.edge_model.specs.Bytes.{AreBytes}
 use Rattle.edge_steps.specs.Rules.{HasTrees}
 use Rattle.edge_steps.proofs.SlotLaws.{slot_in, none_some, from_slotwise}
 use Rattle.edge_steps.proofs.CountLaws.{slot_at, slot_names}

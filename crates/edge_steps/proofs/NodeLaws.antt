@@ -116,7 +116,7 @@ pub record SlotsSet (t u : Tree) (d : ℕ) (slots : Slots) : Type 0 where
   pub was : t d ≡ Some (directory (slots_at t d) parent)
   pub set : NodeSet t u d (Some (directory slots parent))
 
-with_slots_is : (t : Tree) (d : ℕ) (slots old : Slots) (parent : ℕ) → t d ≡ Some (directory old parent) → with_slots t d slots ≡ with_node t d (Some (directory slots parent))
+pub with_slots_is : (t : Tree) (d : ℕ) (slots old : Slots) (parent : ℕ) → t d ≡ Some (directory old parent) → with_slots t d slots ≡ with_node t d (Some (directory slots parent))
 with_slots_is t d slots old parent is = rw is refl
 
 pub slots_set : (t : Tree) (d : ℕ) (slots : Slots) → is_directory t d ≡ true → SlotsSet t (with_slots t d slots) d slots

@@ -6,7 +6,7 @@ use Rattle.edge_base.specs.commands.Descriptors.{Descriptor, Descriptors, descri
 use Rattle.edge_base.specs.tree.Nodes.{Node, file}
 use Rattle.edge_model.specs.Tree.{Tree, is_directory, is_directory_node}
 use Rattle.edge_model.specs.Open.{moved}
-use Rattle.edge_steps.specs.Rules.{IsFor}
+use Rattle.edge_steps.specs.Rules.{NamesItsNode}
 use Rattle.edge_steps.proofs.SlotLaws.{none_some, some_same}
 use Rattle.edge_steps.proofs.NodeLaws.{NodeSet}
 
@@ -21,10 +21,10 @@ set_table (x ∷ xs) (suc h) new (suc k) d is = set_table xs h new k d is
 
 -- each descriptor of a table has its node in a tree
 abbrev pub AreFor : Tree → Descriptors → Type 0
-AreFor t table = (h : ℕ) (d : Descriptor) → descriptor_at table h ≡ Some d → IsFor t d
+AreFor t table = (h : ℕ) (d : Descriptor) → descriptor_at table h ≡ Some d → NamesItsNode t d
 
-pub set_for : (t : Tree) (table : Descriptors) (h : ℕ) (new : Descriptor) → AreFor t table → IsFor t new → AreFor t (slice_set table h (Some new))
-set_for t table h new all good k d is = ⊎_elim (λ (here : Some new ≡ Some d). subst (IsFor t) (some_same new d here) good) (λ old. all k d old) (set_table table h (Some new) k d is)
+pub set_for : (t : Tree) (table : Descriptors) (h : ℕ) (new : Descriptor) → AreFor t table → NamesItsNode t new → AreFor t (slice_set table h (Some new))
+set_for t table h new all good k d is = ⊎_elim (λ (here : Some new ≡ Some d). subst (NamesItsNode t) (some_same new d here) good) (λ old. all k d old) (set_table table h (Some new) k d is)
 
 pub closed_for : (t : Tree) (table : Descriptors) (h : ℕ) → AreFor t table → AreFor t (slice_set table h None)
 closed_for t table h all k d is = ⊎_elim (λ (here : None ≡ Some d). absurd (none_some d here)) (λ old. all k d old) (set_table table h None k d is)

@@ -27,8 +27,8 @@ use Rattle.edge_model.proofs.Plans.{Gives, gives_ok, gives_none, gives_after, gi
 use Rattle.edge_model.proofs.Changes.{passes, is_some_of, none_is, not_false}
 use Rattle.edge_model.proofs.WalkLaws.{in_directory}
 use Rattle.edge_model.proofs.SlotLaws.{first_empty_within}
-use Rattle.edge_steps.specs.Bytes.{AreBytes}
-use Rattle.edge_steps.specs.Rules.{IsFor, HasTrees}
+use Rattle.edge_model.specs.Bytes.{AreBytes}
+use Rattle.edge_steps.specs.Rules.{NamesItsNode, HasTrees}
 use Rattle.edge_steps.proofs.SlotLaws.{none_some, some_same}
 use Rattle.edge_steps.proofs.CountLaws.{slot_at, slot_names}
 use Rattle.edge_steps.proofs.NodeLaws.{node_set, same_kinds, placed_set, file_is, is_there, is_a_file, directory_there}
@@ -156,7 +156,7 @@ same_tree g s reply has = record { tree = has.tree; table = has.descriptors }
 
 -- ---- open
 
-opened_file : (t : Tree) (flags : OpenFlags) (n : ℕ) → is_some (t n) ≡ true → is_directory t n ≡ false → IsFor t (file_descriptor flags n)
+opened_file : (t : Tree) (flags : OpenFlags) (n : ℕ) → is_some (t n) ≡ true → is_directory t n ≡ false → NamesItsNode t (file_descriptor flags n)
 opened_file t flags n there kind = record { there = there; kind = kind }
 
 file_stays : (t : Tree) (n : ℕ) (content : List ℕ) (present : List Bool) → is_directory t n ≡ false → Stays t (with_node t n (Some (file content present)))

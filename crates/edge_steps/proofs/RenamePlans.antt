@@ -24,7 +24,7 @@ use Rattle.edge_model.proofs.Plans.{Gives, gives_ok, gives_after, gives_each}
 use Rattle.edge_model.proofs.Changes.{passes, is_some_of, not_false}
 use Rattle.edge_model.proofs.SlotLaws.{found_within}
 use Rattle.edge_model.proofs.WalkLaws.{walk_in_directory, holder_is_directory}
-use Rattle.edge_steps.specs.Bytes.{AreBytes}
+use Rattle.edge_model.specs.Bytes.{AreBytes}
 use Rattle.edge_steps.specs.Rules.{HasTrees}
 use Rattle.edge_steps.proofs.SlotLaws.{slot_in, none_some, some_same, is_eq, eq_is, to_slotwise}
 use Rattle.edge_steps.proofs.CountLaws.{slot_at, ones, ones_named, ones_other, slot_names}

@@ -12,7 +12,7 @@ use Rattle.edge_model.specs.State.{State, first_state, point_taken, closes_with_
 use Rattle.edge_model.specs.Step.{step}
 use Rattle.edge_model.specs.Tree.{Tree}
 use Rattle.edge_model.proofs.CompleteLaws.{step_sound, point_sound}
-use Rattle.edge_steps.specs.Bytes.{IsOfBytes, IsLineOfBytes}
+use Rattle.edge_model.specs.Bytes.{IsOfBytes, IsLineOfBytes}
 use Rattle.edge_steps.specs.Room.{LeavesRoom}
 use Rattle.edge_steps.specs.Session.{IsSession}
 use Rattle.edge_steps.proofs.TreeLaws.{step_trees, point_trees, first_trees}

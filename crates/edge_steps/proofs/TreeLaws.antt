@@ -18,7 +18,7 @@ use Rattle.edge_model.specs.Run.{Run, run_of, opening, next_line, closed}
 use Rattle.edge_model.specs.Step.{plan, step, plan_stat, plan_fstat, plan_set_mask}
 use Rattle.edge_model.proofs.Plans.{Gives, gives_ok, gives_each}
 use Rattle.edge_model.proofs.Outcomes.{each_state, each_outcome}
-use Rattle.edge_steps.specs.Bytes.{IsOfBytes, IsLineOfBytes}
+use Rattle.edge_model.specs.Bytes.{IsOfBytes, IsLineOfBytes}
 use Rattle.edge_steps.specs.Rules.{HasTrees}
 use Rattle.edge_steps.proofs.SlotLaws.{none_some}
 use Rattle.edge_steps.proofs.OpenLaws.{AreFor}

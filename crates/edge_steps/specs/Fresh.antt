@@ -6,5 +6,5 @@ use Rattle.edge_model.specs.State.{State, Edit}
 use Rattle.edge_model.specs.Tree.{tree_positions}
 
 -- Of what a change touches, as if nothing were dirty, the positions that are there afterwards and are not dirty.
-abbrev pub fresh_of : Request → State → Edit → List Position
-fresh_of g s e = filter (λ p. has (tree_positions g e.tree) p && not (has s.dirty p)) (touched g (λ p. false) e.writes e.removes)
+abbrev pub fresh_positions_of : Request → State → Edit → List Position
+fresh_positions_of g s e = filter (λ p. has (tree_positions g e.tree) p && not (has s.dirty p)) (touched g (λ p. false) e.writes e.removes)

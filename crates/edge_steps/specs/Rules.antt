@@ -7,16 +7,16 @@ use Rattle.edge_model.specs.Rules.{IsTree}
 use Rattle.edge_model.specs.State.{State}
 
 -- the node of an open descriptor is there and of its kind
-pub record IsFor (t : Tree) (d : Descriptor) : Type 0 where
+pub record NamesItsNode (t : Tree) (d : Descriptor) : Type 0 where
   pub there : is_some (t d.number) ≡ true
   pub kind : is_directory t d.number ≡ d.directory
 
 -- each open descriptor has such a node
-abbrev pub AreOpen : State → Type 0
-AreOpen s = (h : ℕ) (d : Descriptor) → descriptor_at s.descriptors h ≡ Some d → IsFor s.tree d
+abbrev pub DescriptorsNameNodes : State → Type 0
+DescriptorsNameNodes s = (h : ℕ) (d : Descriptor) → descriptor_at s.descriptors h ≡ Some d → NamesItsNode s.tree d
 
 -- the tree and that of the last point are trees, and each open descriptor has its node
 pub record HasTrees (g : Request) (s : State) : Type 0 where
   pub tree : IsTree g s.tree
   pub committed : IsTree g s.committed
-  pub descriptors : AreOpen s
+  pub descriptors : DescriptorsNameNodes s

@@ -8,21 +8,21 @@ use Rattle.edge_base.specs.declared.geometry.Request.{Request}
 use Rattle.edge_base.specs.tree.Positions.{Position, data_at, same_position, has, ancestors, above_data, all_ancestors, chain, positions_of, touched}
 use Rattle.edge_base.proofs.ChainLaws.{has-positions_of-number}
 use Rattle.edge_base.proofs.PositionLaws.{same_position_Decides, same_position_equiv, has-append, has-flat_map}
-use Rattle.edge_store.specs.Changed.{has_index, SameIndices, IsBlockOf, IsNoBlockOf, NodeChanged, NodeDirtied}
+use Rattle.edge_store.specs.Changed.{has_index, SameMembers, IsBlockOf, IsNoBlockOf, NodeChanged, NodeDirtied}
 use Rattle.edge_store.specs.Fresh.{is_dirty}
 use Rattle.edge_store.specs.Placed.{block_at, HasPlaces, IsOnce}
 use Rattle.edge_store.specs.View.{View, is_used}
 
 -- ---- lists of indices
 
-any_some : (test : ℕ → Bool) (xs : List ℕ) → list_any test xs ≡ true → (k : ℕ) × (has_index xs k ≡ true) × (test k ≡ true)
+pub any_some : (test : ℕ → Bool) (xs : List ℕ) → list_any test xs ≡ true → (k : ℕ) × (has_index xs k ≡ true) × (test k ≡ true)
 any_some test [] h = absurd (false≢true h)
 any_some test (x ∷ xs) h = ⊎_elim
     (λ (here : test x ≡ true). (x, or_left (x == x) (has_index xs x) (grind (arith, nat_tests)), here))
     (λ (later : list_any test xs ≡ true). let r = any_some test xs later in (r.0, or_right (x == r.0) (has_index xs r.0) r.1, r.2))
     (or_cases (test x) (list_any test xs) h)
 
-some_any : (test : ℕ → Bool) (xs : List ℕ) (k : ℕ) → has_index xs k ≡ true → test k ≡ true → list_any test xs ≡ true
+pub some_any : (test : ℕ → Bool) (xs : List ℕ) (k : ℕ) → has_index xs k ≡ true → test k ≡ true → list_any test xs ≡ true
 some_any test [] k h t = absurd (false≢true h)
 some_any test (x ∷ xs) k h t = ⊎_elim
     (λ (here : (x == k) ≡ true). or_left (test x) (list_any test xs) (ap test (eqb-true x k here) ∙ t))
@@ -34,7 +34,7 @@ same_truth true b one two = sym (one refl)
 same_truth false true one two = two refl
 same_truth false false one two = refl
 
-any_same : (test : ℕ → Bool) (xs ys : List ℕ) → SameIndices xs ys → list_any test xs ≡ list_any test ys
+any_same : (test : ℕ → Bool) (xs ys : List ℕ) → SameMembers xs ys → list_any test xs ≡ list_any test ys
 any_same test xs ys same = same_truth (list_any test xs) (list_any test ys)
     (λ h. let r = any_some test xs h in some_any test ys r.0 (sym (same r.0) ∙ r.1) r.2)
     (λ h. let r = any_some test ys h in some_any test xs r.0 (same r.0 ∙ r.1) r.2)
@@ -56,7 +56,7 @@ module _ (g : Request) (n : ℕ) where
   pub on_chain : (indices : List ℕ) (p : Position) (i : ℕ) → has_index indices i ≡ true → has (chain g n i) p ≡ true → has (positions_of g n indices) p ≡ true
   on_chain indices p i there on = on_some_chain indices p ∙ some_any (λ k. has (chain g n k) p) indices i there on
 
-  pub positions_same : (xs ys : List ℕ) → SameIndices xs ys → (p : Position) → has (positions_of g n xs) p ≡ has (positions_of g n ys) p
+  pub positions_same : (xs ys : List ℕ) → SameMembers xs ys → (p : Position) → has (positions_of g n xs) p ≡ has (positions_of g n ys) p
   positions_same xs ys same p = on_some_chain xs p ∙ any_same (λ i. has (chain g n i) p) xs ys same ∙ sym (on_some_chain ys p)
 
   pub data_there : (indices : List ℕ) (i : ℕ) → has_index indices i ≡ true → has (positions_of g n indices) (data_at n i) ≡ true
@@ -127,7 +127,7 @@ module _ (g : Request) (u v w : View) (n : ℕ) (a b d : List ℕ) (one : NodeCh
 
 -- ---- the same indices
 
-module _ (g : Request) (v : View) (n : ℕ) (xs ys : List ℕ) (same : SameIndices xs ys) where
+module _ (g : Request) (v : View) (n : ℕ) (xs ys : List ℕ) (same : SameMembers xs ys) where
   to_has : (p : Position) → has (positions_of g n ys) p ≡ true → has (positions_of g n xs) p ≡ true
   to_has p h = positions_same g n xs ys same p ∙ h
 
@@ -148,10 +148,10 @@ module _ (g : Request) (v : View) (n : ℕ) (xs ys : List ℕ) (same : SameIndic
   pub same_none : (b : ℕ) → IsNoBlockOf g v n xs b → IsNoBlockOf g v n ys b
   same_none b none p h = none p (to_has p h)
 
-turned : (xs ys : List ℕ) → SameIndices xs ys → SameIndices ys xs
+turned : (xs ys : List ℕ) → SameMembers xs ys → SameMembers ys xs
 turned xs ys same i = sym (same i)
 
-pub changed_same : (g : Request) (v w : View) (n : ℕ) (a b x y : List ℕ) → SameIndices a x → SameIndices b y → NodeChanged g v w n a b → NodeChanged g v w n x y
+pub changed_same : (g : Request) (v w : View) (n : ℕ) (a b x y : List ℕ) → SameMembers a x → SameMembers b y → NodeChanged g v w n a b → NodeChanged g v w n x y
 changed_same g v w n a b x y old new c = record {
   places = same_places g w n b y new c.places;
   once = same_once g w n b y new c.once;
@@ -214,6 +214,14 @@ module _ (g : Request) (n : ℕ) where
   pub touches_one : (i : ℕ) (p : Position) → touches g n (i ∷ []) [] p ≡ has (chain g n i) p
   touches_one i p = touches_is (i ∷ []) [] p ∙ (λ t. or_false (same_position p (data_at n i)) t || or_false (has (above_data g n i) p) t)
 
+  none_else : (b : Bool) → (false || (b || false)) ≡ b
+  none_else true = refl
+  none_else false = refl
+
+  -- where data blocks are removed alone, that is what is above them
+  pub touches_removed : (removes : List ℕ) (p : Position) → touches g n [] removes p ≡ list_any (λ i. has (above_data g n i) p) removes
+  touches_removed removes p = touches_is [] removes p ∙ none_else (above g n removes p)
+
   both_touch : (a b c d e f : Bool) → ((a || b) || ((c || d) || (e || f))) ≡ ((a || (c || e)) || (b || (d || f)))
   both_touch true b c d e f = refl
   both_touch false true c d e f = grind (arith, nat_tests)
@@ -229,7 +237,7 @@ module _ (g : Request) (n : ℕ) where
       ∙ both_touch (at_index n w1 p) (at_index n w2 p) (above g n r1 p) (above g n r2 p) (above g n w1 p) (above g n w2 p)
       ∙ (λ i. sym (touches_is w1 r1 p) i || sym (touches_is w2 r2 p) i)
 
-  touches_same : (ws xs rs ys : List ℕ) (p : Position) → SameIndices ws xs → SameIndices rs ys → touches g n ws rs p ≡ touches g n xs ys p
+  touches_same : (ws xs rs ys : List ℕ) (p : Position) → SameMembers ws xs → SameMembers rs ys → touches g n ws rs p ≡ touches g n xs ys p
   touches_same ws xs rs ys p writes removes =
       touches_is ws rs p
       ∙ (λ i. any_same (λ k. same_position p (data_at n k)) ws xs writes i || (any_same (λ k. has (above_data g n k) p) rs ys removes i || any_same (λ k. has (above_data g n k) p) ws xs writes i))
@@ -285,7 +293,7 @@ module _ (g : Request) (c u v w : View) (n : ℕ) (a b d w1 r1 w2 r2 : List ℕ)
         (cases_Bool (has_index b i));
   }
 
-pub dirtied_same : (g : Request) (c v w : View) (n : ℕ) (a b ws rs x y us qs : List ℕ) → SameIndices a x → SameIndices b y → SameIndices ws us → SameIndices rs qs → NodeDirtied g c v w n a b ws rs → NodeDirtied g c v w n x y us qs
+pub dirtied_same : (g : Request) (c v w : View) (n : ℕ) (a b ws rs x y us qs : List ℕ) → SameMembers a x → SameMembers b y → SameMembers ws us → SameMembers rs qs → NodeDirtied g c v w n a b ws rs → NodeDirtied g c v w n x y us qs
 dirtied_same g c v w n a b ws rs x y us qs old new writes removes d = record {
   dirty = λ p h.
       d.dirty p (positions_same g n b y new p ∙ h)

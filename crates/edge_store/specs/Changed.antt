@@ -13,9 +13,9 @@ use Rattle.edge_store.specs.View.{View, content_at, is_used}
 abbrev pub has_index : List ℕ → ℕ → Bool
 has_index indices i = list_any (λ k. k == i) indices
 
--- two lists have the same indices
-abbrev pub SameIndices : List ℕ → List ℕ → Type 0
-SameIndices one two = (i : ℕ) → has_index one i ≡ has_index two i
+-- they have the same members
+abbrev pub SameMembers : List ℕ → List ℕ → Type 0
+SameMembers xs ys = (i : ℕ) → has_index xs i ≡ has_index ys i
 
 -- a block of node n, which has these data blocks
 pub record IsBlockOf (g : Request) (v : View) (n : ℕ) (indices : List ℕ) (b : ℕ) : Type 0 where

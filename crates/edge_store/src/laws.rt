@@ -8,7 +8,7 @@ ghost use Rattle.edge_base.specs.declared.geometry.Request.{Request};
 ghost use Rattle.edge_base.specs.declared.node.Head.{Head};
 ghost use Rattle.edge_base.specs.layout.Places.{allocable_of, max_blocks_of, way_of};
 ghost use Rattle.edge_base.specs.tree.Positions.{Position, count_of, above_data, positions_of_form};
-ghost use Rattle.edge_store.specs.Changed.{has_index, SameIndices, NodeChanged, NodeDirtied, KeepsContents};
+ghost use Rattle.edge_store.specs.Changed.{has_index, SameMembers, NodeChanged, NodeDirtied, KeepsContents};
 ghost use Rattle.edge_store.specs.Counted.{Occupy};
 ghost use Rattle.edge_store.specs.Damages.{damage_at, damage_of_inode, IsDamage, IsLinked};
 ghost use Rattle.edge_store.specs.Effects.{IsFresh, Taken, Copied, BlockDropped, HeadSet, InodeMade, InodeDropped, BytesSet, put_in};
@@ -183,16 +183,16 @@ pub fn changes_at_a_node_add_up()
 /// It does not matter in which order, or how often, a list names the data blocks of a node.
 pub fn lists_of_the_same_indices_say_the_same()
     ensures places { (g : Request) (v : View) (n : ℕ) (one two : List ℕ)
-        → SameIndices one two → HasPlaces g v n one → HasPlaces g v n two }
+        → SameMembers one two → HasPlaces g v n one → HasPlaces g v n two }
     ensures once { (g : Request) (v : View) (n : ℕ) (one two : List ℕ)
-        → SameIndices one two → IsOnce g v n one → IsOnce g v n two }
+        → SameMembers one two → IsOnce g v n one → IsOnce g v n two }
     ensures changed { (g : Request) (v w : View) (n : ℕ) (old new old_too new_too : List ℕ)
-        → SameIndices old old_too → SameIndices new new_too
+        → SameMembers old old_too → SameMembers new new_too
         → NodeChanged g v w n old new → NodeChanged g v w n old_too new_too }
     ensures dirtied { (g : Request) (c v w : View) (n : ℕ) (old new writes removes : List ℕ)
         (old_too new_too writes_too removes_too : List ℕ)
-        → SameIndices old old_too → SameIndices new new_too
-        → SameIndices writes writes_too → SameIndices removes removes_too
+        → SameMembers old old_too → SameMembers new new_too
+        → SameMembers writes writes_too → SameMembers removes removes_too
         → NodeDirtied g c v w n old new writes removes
         → NodeDirtied g c v w n old_too new_too writes_too removes_too }
 {}
