@@ -4,3 +4,9 @@ pub mod TouchLaws
 pub mod NeedLaws
 pub mod SizeLaws
 pub mod RoomLaws
+pub mod FreshLaws
+pub mod ChainLaws
+pub mod KeptLaws
+pub mod WriteStepLaws
+pub mod CutStepLaws
+pub mod JoinLaws

@@ -1,5 +1,5 @@
 -- A cut makes as many positions dirty as it needs blocks.
-use Rattle.std.proofs.Common.{◌≡◌, ◌≢◌, ℕ, ◌+◌, ◌-◌, ◌==◌, ◌&&◌, ◌||◌, not, Bool, true, false, cond, ltb, leb, List, [], refl, sym, ap, ◌∙◌, arith}
+use Rattle.std.proofs.Common.{◌≡◌, ℕ, ◌+◌, ◌-◌, ◌==◌, ◌&&◌, ◌||◌, not, Bool, true, false, cond, ltb, leb, List, [], refl, sym, ap, ◌∙◌, arith}
 use Rattle.std.specs.Prelude.{slice_index}
 use Rattle.std.specs.List.{filter, count_by, range_with_len}
 use Rattle.std.proofs.lemmas.Bool.{and_parts}
@@ -18,6 +18,7 @@ use Rattle.edge_moves.specs.Renewal.{cost}
 use Rattle.edge_shape.specs.declared.cut.Cut.{Cut}
 use Rattle.edge_shape.specs.declared.cut.Cut.TheVariants.{Whole, Node, Top, Both}
 use Rattle.edge_shape.specs.Shape.{HasShape, entries_at}
+use Rattle.edge_shape.specs.Cut.{is_split}
 use Rattle.edge_shape.specs.Where.{is_through, cut_at, cut_need, need_of, GoesThrough}
 use Rattle.edge_shape.proofs.SpotLaws.{pointer_there}
 use Rattle.edge_shape.proofs.ShapeLaws.{indirect_down, indirect_pointer}
@@ -70,21 +71,20 @@ module _ (g : Request) (c v : View) (n i : ℕ) (indices : List ℕ) (shape : Ha
   found : Finds g indices i cut
   found = finds g v n indices shape i
 
+  -- the positions that are touched and there afterwards are those that the cut splits
+  pub touched_split : (form : Form) (m : ℕ) → (has above (numbered n form m) && is_there_after g c v [] gone (numbered n form m)) ≡ is_split g i indices form m
+  touched_split Plain m = (λ t. touched_plain g c v n i indices shape m t && is_there_after g c v [] gone (numbered n Plain m)) ∙ sym (plain_split g v n i indices shape m)
+  touched_split Indirect m = λ t. touched_form g c v n i indices shape Indirect m (λ (e : Indirect ≡ Plain). cc) t && there_form g c v n i indices shape Indirect m t
+  touched_split Double m = λ t. touched_form g c v n i indices shape Double m (λ (e : Double ≡ Plain). cc) t && there_form g c v n i indices shape Double m t
+
   fall_ranges : IsRanges fall n (first_through g cut) (many_through cut)
   fall_ranges = record {
     number = λ q h. touched_number g c v n i indices shape q (and_parts (has above q) _ (sym (has-filter (λ r. is_there_after g c v [] gone r) above q) ∙ h)).0;
     range = λ form m. has-filter (λ r. is_there_after g c v [] gone r) above (numbered n form m) ∙ by form m;
   }
     where
-      touched_split : (form : Form) (m : ℕ) → form ≢ Plain → (has above (numbered n form m) && is_there_after g c v [] gone (numbered n form m)) ≡ is_through g cut form m
-      touched_split form m node = (λ t. touched_form g c v n i indices shape form m node t && there_form g c v n i indices shape form m t)
-          ∙ split_by_cut g v n i indices shape cut found.goes_through found.takes found.same form m
-
       by : (form : Form) (m : ℕ) → (has above (numbered n form m) && is_there_after g c v [] gone (numbered n form m)) ≡ (leb (first_through g cut form) m && ltb m (first_through g cut form + many_through cut form))
-      by Plain m = (λ t. touched_plain g c v n i indices shape m t && is_there_after g c v [] gone (numbered n Plain m))
-          ∙ sym (sym (split_by_cut g v n i indices shape cut found.goes_through found.takes found.same Plain m) ∙ plain_split g v n i indices shape m) ∙ through_range g cut Plain m
-      by Indirect m = touched_split Indirect m (λ (e : Indirect ≡ Plain). cc) ∙ through_range g cut Indirect m
-      by Double m = touched_split Double m (λ (e : Double ≡ Plain). cc) ∙ through_range g cut Double m
+      by form m = touched_split form m ∙ split_by_cut g v n i indices shape cut found.goes_through found.takes found.same form m ∙ through_range g cut form m
 
   -- ---- the sum over the forms
 

@@ -95,7 +95,7 @@ module _ (g : Request) (c v : View) (n i : ℕ) (indices : List ℕ) (shape : Ha
   pub touched_number : (p : Position) → has (touched g (λ q. false) [] removes) p ≡ true → p.number ≡ n
   touched_number p h = let f = found (λ x. has (above_data g n x) p) cut_indices (sym (touched_has p) ∙ h) in above_number g n f.0 p f.2
 
-  after_is : (x : ℕ) → has_after g c v [] removes n x ≡ (list_any (λ k. k == x) indices && nat_lt x i)
+  pub after_is : (x : ℕ) → has_after g c v [] removes n x ≡ (list_any (λ k. k == x) indices && nat_lt x i)
   after_is x = both_ways _ _
       (λ h.
       let parts = and_parts (not (data_block g v n x == 0)) (not (has removes (data_at n x))) h in

@@ -1,7 +1,7 @@
 -- The fresh positions of writes are those of their chains.
 use Rattle.std.proofs.Common.{◌≡◌, ℕ, ◌+◌, ◌<◌, ◌≤◌, ◌==◌, ◌&&◌, ◌||◌, not, Bool, true, false, List, [], ◌∷◌, ◌++◌, map, refl, sym, ap, ◌∙◌, subst, arith, inl, inr}
 use Rattle.std.specs.List.{filter, flat_map, count_by, range_with_len, list_any}
-use Rattle.std.proofs.lemmas.Bool.{eqb-true, eq-eqb, and_parts, and_from, or_left, or_right, or_cases}
+use Rattle.std.proofs.lemmas.Bool.{eqb-true, eq-eqb, and_parts, and_from, or_left, or_cases}
 use Rattle.std.proofs.lemmas.Bool.Decides.{nat_tests}
 use Rattle.edge_base.specs.declared.form.Form.{Form}
 use Rattle.edge_base.specs.declared.form.Form.TheVariants.{Plain, Indirect, Double}
@@ -10,7 +10,7 @@ use Rattle.edge_base.specs.layout.Places.{pointers_of, max_blocks_of}
 use Rattle.edge_base.specs.tree.Chains.{is_on_chain}
 use Rattle.edge_base.specs.tree.Positions.{Position, same_position, data_at, chain, has, count_of, positions_of, ancestors, all_ancestors, touched}
 use Rattle.edge_base.proofs.ChainLaws.{has-positions_of}
-use Rattle.edge_base.proofs.PositionLaws.{has-append, has-filter, has-flat_map, count_of-append, count_of-from_has, same_position_equiv, same_position_Decides}
+use Rattle.edge_base.proofs.PositionLaws.{has-append, has-filter, has-flat_map, count_of-append, count_of-from_has, same_position_Decides}
 use Rattle.edge_store.specs.View.{View}
 use Rattle.edge_store.specs.Fresh.{is_dirty, has_after, is_there_after, fresh_positions, fresh_count}
 use Rattle.edge_moves.specs.Sound.{numbered}

@@ -1,6 +1,6 @@
 //! Laws over the definitions of `specs/`: functions without effects.
 
-ghost use Rattle.std.specs.Prelude.{◌≡◌, ◌<◌, ◌≤◌, ℕ, ◌+◌, ◌-◌, ◌&&◌, not, Bool, true, List, [], ◌∷◌, map, filter, flat_map, count_by};
+ghost use Rattle.std.specs.Prelude.{◌≡◌, ◌≢◌, ◌<◌, ◌≤◌, ℕ, ◌+◌, ◌-◌, ◌&&◌, not, Bool, true, false, List, [], ◌∷◌, ◌++◌, map, filter, flat_map, count_by};
 ghost use Rattle.std.specs.List.{range_with_len};
 ghost use Rattle.edge_base.specs.declared.form.Form.{Form};
 ghost use Rattle.edge_base.specs.declared.form.Form.TheVariants.{Plain, Indirect, Double};
@@ -8,13 +8,14 @@ ghost use Rattle.edge_base.specs.declared.geometry.Request.{Request};
 ghost use Rattle.edge_base.specs.layout.Places.{IsGeometry, max_blocks_of};
 ghost use Rattle.edge_base.specs.tree.Positions.{Position, data_at, ancestors, chain, positions_of, has, count_of};
 ghost use Rattle.edge_store.specs.Fresh.{is_dirty, fresh_count};
-ghost use Rattle.edge_store.specs.View.{View, free_after, free_now};
+ghost use Rattle.edge_store.specs.View.{View, IsView, free_now};
 ghost use Rattle.edge_moves.specs.Sound.{numbered};
-ghost use Rattle.edge_shape.specs.declared.cut.Cut.{Cut};
-ghost use Rattle.edge_shape.specs.Cut.{IsCut};
-ghost use Rattle.edge_shape.specs.Shape.{HasShape};
-ghost use Rattle.edge_shape.specs.Where.{cut_at, cut_need};
+ghost use Rattle.edge_moves.specs.Writable.{IsMadeWritable, fresh_on_chain};
+ghost use Rattle.edge_shape.specs.Cut.{is_split, IsCut};
+ghost use Rattle.edge_shape.specs.Shape.{HasShape, before};
+ghost use Rattle.edge_shape.specs.Where.{cut_need};
 ghost use Rattle.edge_count.specs.Cuts.{removed};
+ghost use Rattle.edge_count.specs.Frames.{KeepsBlocks, AreApart, AreKept, AreOfOrKept, AreElsewhere, AreAmong};
 ghost use Rattle.edge_count.specs.Runs.{IsRanges, run_first, run_count};
 
 /// Positions that are ranges of numbers are counted form by form. Those of data blocks side by side
@@ -23,22 +24,25 @@ pub fn positions_count_by_form()
     ensures sum { (ps : List Position) (n : ℕ) (first count : Form → ℕ) (test : Position → Bool)
         → IsRanges ps n first count → count_of (filter test ps)
         ≡ count_by (λ k. test (numbered n Plain k)) (range_with_len (first Plain) (count Plain))
-        + count_by (λ k. test (numbered n Indirect k)) (range_with_len (first Indirect) (count Indirect))
-        + count_by (λ k. test (numbered n Double k)) (range_with_len (first Double) (count Double)) }
+        + count_by (λ k. test (numbered n Indirect k))
+        (range_with_len (first Indirect) (count Indirect))
+        + count_by (λ k. test (numbered n Double k))
+        (range_with_len (first Double) (count Double)) }
     ensures run { (g : Request) (n lo len : ℕ) → IsGeometry g
         → IsRanges (positions_of g n (range_with_len lo len)) n
         (run_first g lo len) (run_count g lo len) }
 {}
 
 /// The fresh positions of writes are those of their chains that are not dirty: of any data
-/// positions, of one, of two, and of a run.
+/// positions, of one, of two, and of a run. A chain is counted as a set.
 pub fn writes_make_their_chains_dirty()
     ensures any { (g : Request) (c v : View) (writes : List Position)
         → ((p : Position) → has writes p ≡ true → (p.form ≡ Plain) × (p.index < max_blocks_of g))
         → fresh_count g c v writes [] ≡ count_of (filter (λ p. not (is_dirty g c v p))
         (flat_map (λ p. p ∷ ancestors g p) writes)) }
     ensures one { (g : Request) (c v : View) (n i : ℕ) → i < max_blocks_of g
-        → fresh_count g c v (data_at n i ∷ []) []
+        → fresh_count g c v (data_at n i ∷ []) [] ≡ fresh_on_chain g c v n i }
+    ensures chain { (g : Request) (c v : View) (n i : ℕ) → fresh_on_chain g c v n i
         ≡ count_of (filter (λ p. not (is_dirty g c v p)) (chain g n i)) }
     ensures two { (g : Request) (c v : View) (n i m k : ℕ)
         → i < max_blocks_of g → k < max_blocks_of g
@@ -72,7 +76,7 @@ pub fn a_cut_behind_a_write_adds_nothing()
     ensures chain { (g : Request) (c v : View) (n i : ℕ) (indices : List ℕ)
         → HasShape g v n indices → 0 < i → i ≤ max_blocks_of g
         → fresh_count g c v (data_at n (i - 1) ∷ []) (removed n i indices)
-        ≡ count_of (filter (λ p. not (is_dirty g c v p)) (chain g n (i - 1))) }
+        ≡ fresh_on_chain g c v n (i - 1) }
 {}
 
 /// A cut at an index takes no more of the blocks that are free now than it needs.
@@ -80,4 +84,107 @@ pub fn a_cut_takes_no_more_than_it_needs()
     ensures { (g : Request) (c v w : View) (n i : ℕ) (indices : List ℕ)
         → HasShape g v n indices → IsCut g c v w n i indices
         → free_now g c v ≤ free_now g c w + cut_need g c v n i }
+{}
+
+/// A write and a cut are counted together: of two nodes as a sum, and of one node, where the block
+/// that is written is before the cut, without what is on its chain and is split.
+pub fn a_write_and_a_cut_count_together()
+    ensures apart { (g : Request) (c v : View) (n m k i : ℕ) (indices : List ℕ)
+        → HasShape g v m indices → n ≢ m → k < max_blocks_of g
+        → fresh_count g c v (data_at n k ∷ []) (removed m i indices)
+        ≡ fresh_on_chain g c v n k + cut_need g c v m i }
+    ensures same { (g : Request) (c v : View) (n k i : ℕ) (indices : List ℕ)
+        → HasShape g v n indices → k < i → k < max_blocks_of g
+        → fresh_count g c v (data_at n k ∷ []) (removed n i indices)
+        + count_of (filter (λ p. is_split g i indices p.form p.index && not (is_dirty g c v p))
+        (chain g n k))
+        ≡ fresh_on_chain g c v n k + cut_need g c v n i }
+{}
+
+/// A node that goes whole makes nothing dirty, alone and besides what is at other nodes.
+pub fn a_node_that_goes_whole_costs_nothing()
+    ensures all { (n : ℕ) (indices : List ℕ)
+        → removed n 0 indices ≡ map (data_at n) indices }
+    ensures alone { (g : Request) (c v : View) (n : ℕ) (indices : List ℕ)
+        → HasShape g v n indices → fresh_count g c v [] (removed n 0 indices) ≡ 0 }
+    ensures besides { (g : Request) (c v : View) (n : ℕ) (indices : List ℕ)
+        (writes removes : List Position)
+        → HasShape g v n indices → AreElsewhere n writes → AreElsewhere n removes
+        → fresh_count g c v writes (removed n 0 indices ++ removes)
+        ≡ fresh_count g c v writes removes }
+{}
+
+/// The count of a change is of the positions that it names, however they are listed, and stays
+/// while their nodes keep their blocks.
+pub fn a_change_is_counted_by_what_it_names()
+    ensures named { (g : Request) (c v : View) (ws xs rs ss : List Position)
+        → ((p : Position) → has ws p ≡ has xs p) → ((p : Position) → has rs p ≡ has ss p)
+        → fresh_count g c v ws rs ≡ fresh_count g c v xs ss }
+    ensures kept { (g : Request) (c v w : View) (writes removes : List Position)
+        → AreKept g v w writes → AreKept g v w removes
+        → fresh_count g c w writes removes ≡ fresh_count g c v writes removes }
+{}
+
+/// A step takes its part from the count of a change: a data block made writable the positions of
+/// its chain that are not new, a cut what it needs. The rest is counted in the view after it. What
+/// is named besides is of the same node, or of nodes that keep their blocks.
+pub fn a_step_takes_its_part_of_a_change()
+    ensures write { (g : Request) (c v w : View) (n i : ℕ) (indices : List ℕ)
+        (writes removes : List Position)
+        → HasShape g v n indices → IsView g w → i < max_blocks_of g
+        → IsMadeWritable g c v w n i indices
+        → AreOfOrKept g v w n writes → AreOfOrKept g v w n removes
+        → has removes (data_at n i) ≡ false
+        → fresh_count g c v (data_at n i ∷ writes) removes
+        ≡ fresh_on_chain g c v n i + fresh_count g c w writes removes }
+    ensures cut { (g : Request) (c v w : View) (n i : ℕ) (indices : List ℕ)
+        (writes removes : List Position)
+        → HasShape g v n indices → IsCut g c v w n i indices
+        → AreOfOrKept g v w n writes → AreAmong n (before i indices) writes
+        → AreKept g v w removes → AreElsewhere n removes
+        → fresh_count g c v writes (removed n i indices ++ removes)
+        ≡ cut_need g c v n i + fresh_count g c w writes removes }
+{}
+
+/// So a change that fits before its first step gives each step its room: the first step needs no
+/// more than the change, and after it the rest fits.
+pub fn a_change_that_fits_has_room_for_its_steps()
+    ensures write { (g : Request) (c v : View) (n i : ℕ) (writes removes : List Position)
+        → i < max_blocks_of g → has removes (data_at n i) ≡ false
+        → fresh_on_chain g c v n i ≤ fresh_count g c v (data_at n i ∷ writes) removes }
+    ensures after_write { (g : Request) (c v w : View) (n i reserve : ℕ) (indices : List ℕ)
+        (writes removes : List Position)
+        → HasShape g v n indices → IsView g w → i < max_blocks_of g
+        → IsMadeWritable g c v w n i indices
+        → AreOfOrKept g v w n writes → AreOfOrKept g v w n removes
+        → has removes (data_at n i) ≡ false
+        → fresh_count g c v (data_at n i ∷ writes) removes + reserve ≤ free_now g c v
+        → fresh_count g c w writes removes + reserve ≤ free_now g c w }
+    ensures cut { (g : Request) (c v : View) (n i : ℕ) (indices : List ℕ)
+        (writes removes : List Position)
+        → HasShape g v n indices → AreElsewhere n removes
+        → cut_need g c v n i ≤ fresh_count g c v writes (removed n i indices ++ removes) }
+    ensures after_cut { (g : Request) (c v w : View) (n i reserve : ℕ) (indices : List ℕ)
+        (writes removes : List Position)
+        → HasShape g v n indices → IsCut g c v w n i indices
+        → AreOfOrKept g v w n writes → AreAmong n (before i indices) writes
+        → AreKept g v w removes → AreElsewhere n removes
+        → fresh_count g c v writes (removed n i indices ++ removes) + reserve ≤ free_now g c v
+        → fresh_count g c w writes removes + reserve ≤ free_now g c w }
+{}
+
+/// A step at one node leaves another of some shape as it was, if they have no block in common.
+pub fn a_step_keeps_other_nodes()
+    ensures write { (g : Request) (c v w : View) (n m i : ℕ) (indices others : List ℕ)
+        → HasShape g v m others → IsView g w → AreApart g v n m → m ≢ n
+        → IsMadeWritable g c v w n i indices → KeepsBlocks g v w m }
+    ensures write_shape { (g : Request) (c v w : View) (n m i : ℕ) (indices others : List ℕ)
+        → HasShape g v m others → IsView g w → AreApart g v n m → m ≢ n
+        → IsMadeWritable g c v w n i indices → HasShape g w m others }
+    ensures cut { (g : Request) (c v w : View) (n m i : ℕ) (indices others : List ℕ)
+        → HasShape g v m others → AreApart g v n m → m ≢ n
+        → IsCut g c v w n i indices → KeepsBlocks g v w m }
+    ensures cut_shape { (g : Request) (c v w : View) (n m i : ℕ) (indices others : List ℕ)
+        → HasShape g v m others → AreApart g v n m → m ≢ n
+        → IsCut g c v w n i indices → HasShape g w m others }
 {}

@@ -1,7 +1,7 @@
 -- What an entry or a pointer that was set makes of a node.
 use Rattle.std.proofs.Common.{◌≡◌, ◌≢◌, ℕ, ◌+◌, ◌<◌, ◌≤◌, ◌&&◌, not, true, false, inl, inr, length, Option, Some, None, refl, sym, ap, ◌∙◌, subst, arith}
 use Rattle.std.specs.Prelude.{slice_index, slice_set, is_some, Result, Ok, Err}
-use Rattle.std.proofs.lemmas.Bool.{cases_eq, and_parts, eq-eqb}
+use Rattle.std.proofs.lemmas.Bool.{cases_eq, eq-eqb}
 use Rattle.std.proofs.lemmas.List.{get_or-set_same, get_or-set_other}
 use Rattle.std.proofs.lemmas.Map.{update_here, update_apart}
 use Rattle.edge_base.specs.declared.form.Form.{Form}

@@ -1,6 +1,6 @@
 -- What a cut makes of the blocks of a node.
 use Rattle.std.proofs.Common.{◌≡◌, ◌≢◌, ◌⊎◌, ℕ, ◌+◌, ◌-◌, ◌<◌, ◌≤◌, ◌==◌, ◌&&◌, ◌||◌, not, Bool, true, false, List, refl, sym, ap, ◌∙◌, subst, arith, inl, inr, None}
-use Rattle.std.specs.Prelude.{slice_index, nat_lt}
+use Rattle.std.specs.Prelude.{nat_lt}
 use Rattle.std.specs.List.{list_any}
 use Rattle.std.proofs.lemmas.Bool.{cases_Bool, eqb-true, eq-eqb, and_parts, and_from, or_cases, or_right, lt-ltb, le-leb}
 use Rattle.edge_base.specs.declared.form.Form.{Form}
@@ -25,9 +25,9 @@ use Rattle.edge_shape.specs.Trimmed.{Trims}
 use Rattle.edge_shape.specs.Where.{first_gone, cut_at, is_through, GoesThrough, TakesFrom}
 use Rattle.edge_shape.specs.Steps.{NodeSteps, BothSteps, Steps}
 use Rattle.edge_shape.specs.Cut.{is_split, IsCut}
-use Rattle.edge_shape.proofs.SpotLaws.{used_spot, same_form-true}
+use Rattle.edge_shape.proofs.SpotLaws.{same_form-true}
 use Rattle.edge_shape.proofs.ListLaws.{any_of, any-filter, filter-members, true_false}
-use Rattle.edge_shape.proofs.ShapeLaws.{listed, indirect_pointer}
+use Rattle.edge_shape.proofs.ShapeLaws.{listed}
 use Rattle.edge_shape.proofs.LeaveLaws.{position_of, position_there, index_listed}
 use Rattle.edge_shape.proofs.MovedLaws.{entry_is_there, entry_step_of, under_is_there, pointer_step_of}
 use Rattle.edge_shape.proofs.RangeLaws.{on_indirect-range, on_double-range}

@@ -9,7 +9,7 @@ use Rattle.edge_base.specs.tree.Positions.{same_position, has, positions_of, pos
 use Rattle.edge_base.proofs.PositionLaws.{same_position_Decides}
 use Rattle.edge_store.specs.Damages.{form_of_entry, form_under}
 use Rattle.edge_store.specs.Placed.{entry_at, pointer_at, block_at}
-use Rattle.edge_store.specs.View.{View, IsView, is_used, is_whole}
+use Rattle.edge_store.specs.View.{View, IsView, is_whole}
 use Rattle.edge_store.proofs.ViewLaws.{entries_of_whole}
 use Rattle.edge_moves.specs.Sound.{numbered}
 use Rattle.edge_moves.specs.Relinks.{number_of_entry, number_under}

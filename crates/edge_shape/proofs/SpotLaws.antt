@@ -1,20 +1,13 @@
 -- Blocks with a form and an owner, and the pointers in them.
-use Rattle.std.proofs.Common.{◌≡◌, ◌≢◌, ℕ, ◌+◌, ◌-◌, ◌/◌, ◌%◌, ◌<◌, ◌≤◌, ◌==◌, ◌||◌, not, Bool, true, false, cond, eqb, List, length, refl, sym, ap, ◌∙◌, arith, Option, Some, None, Ok, Err}
-use Rattle.std.specs.Prelude.{slice_index, slice_set, is_some, nat_lt}
+use Rattle.std.proofs.Common.{◌≡◌, ◌≢◌, ℕ, ◌==◌, ◌||◌, Bool, true, false, refl, sym, ap, ◌∙◌, None}
+use Rattle.std.specs.Prelude.{is_some}
 use Rattle.std.specs.List.{list_any}
-use Rattle.std.proofs.lemmas.Bool.{cond-false}
-use Rattle.std.proofs.lemmas.Bool.Decides.{nat_tests}
 use Rattle.edge_base.specs.declared.form.Form.{Form}
 use Rattle.edge_base.specs.declared.form.Form.TheVariants.{Plain, Indirect, Double}
-use Rattle.edge_base.specs.declared.geometry.Request.{Request}
 use Rattle.edge_base.specs.tree.Positions.{same_form}
-use Rattle.edge_base.specs.declared.geometry.BadGeometry.{BadGeometry}
-use Rattle.edge_base.specs.layout.Sizes.{is_block_size}
-use Rattle.edge_base.specs.layout.Places.{IsGeometry, bad_geometry, entries_of, pointers_of}
-use Rattle.edge_store.specs.View.{View, Block, Inode, whole, broken, Content, content, content_at, bytes, pointers, unused, entries_in, entries_of_inode, is_owned_by, is_spot, is_used, is_whole, head_of_inode, with_entry, IsView}
+use Rattle.edge_store.specs.View.{View, content, content_at, entries_in, is_spot, is_used}
 use Rattle.edge_store.specs.Placed.{pointer_at}
 use Rattle.edge_store.proofs.ViewLaws.{used_of}
-use Rattle.edge_shape.specs.Shape.{entries_at}
 use Rattle.edge_shape.specs.Trees.{in_tree}
 
 -- ---- forms

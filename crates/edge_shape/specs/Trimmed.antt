@@ -15,7 +15,8 @@ pub record Trims (g : Request) (v w : View) (n : ℕ) (indices rest : List ℕ) 
   pub head : head_of_inode (w.inodes n) ≡ head_of_inode (v.inodes n)
   pub inodes : (m : ℕ) → m ≢ n → w.inodes m ≡ v.inodes m
   -- each block of what is left stays where it is, and a data block with its bytes
-  pub stays : (form : Form) (m : ℕ) → has (positions_of g n rest) (numbered n form m) ≡ true → block_at g w (numbered n form m) ≡ block_at g v (numbered n form m)
+  pub stays : (form : Form) (m : ℕ) → has (positions_of g n rest) (numbered n form m) ≡ true
+      → block_at g w (numbered n form m) ≡ block_at g v (numbered n form m)
   pub bytes : (i : ℕ) → list_any (λ k. k == i) rest ≡ true → w.blocks (data_block g v n i) ≡ v.blocks (data_block g v n i)
   -- the others are not used any more
   pub dropped : (form : Form) (m : ℕ) → has (positions_of g n indices) (numbered n form m) ≡ true → has (positions_of g n rest) (numbered n form m) ≡ false

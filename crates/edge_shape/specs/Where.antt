@@ -92,16 +92,19 @@ GoesThrough g indices (Node entry place) = (g.direct ≤ entry) × (entry < g.di
 GoesThrough g indices (Top entry place) = (g.direct + g.indirect ≤ entry) × (place ≤ pointers_of g)
     × (let d = entry - g.direct - g.indirect in HasBetween indices (data_under g form.Double d 0) (data_under g form.Double d place))
 GoesThrough g indices (Both entry outer place) = (g.direct + g.indirect ≤ entry) × (outer < pointers_of g) × (place ≤ pointers_of g)
-    × (let node = number_under g form.Double (entry - g.direct - g.indirect) outer in HasBetween indices (data_under g form.Indirect node 0) (data_under g form.Indirect node place))
+    × (let node = number_under g form.Double (entry - g.direct - g.indirect) outer in
+    HasBetween indices (data_under g form.Indirect node 0) (data_under g form.Indirect node place))
 
 -- Something of each of them goes, too.
 abbrev pub TakesFrom : Request → List ℕ → Cut → Type 0
 TakesFrom g indices (Whole entry) = Unit {0}
-TakesFrom g indices (Node entry place) = HasBetween indices (data_under g form.Indirect (entry - g.direct) place) (data_under g form.Indirect (entry - g.direct) (pointers_of g))
+TakesFrom g indices (Node entry place) =
+    let j = entry - g.direct in HasBetween indices (data_under g form.Indirect j place) (data_under g form.Indirect j (pointers_of g))
 TakesFrom g indices (Top entry place) =
     let d = entry - g.direct - g.indirect in HasBetween indices (data_under g form.Double d place) (data_under g form.Double d (pointers_of g))
 TakesFrom g indices (Both entry outer place) =
-    let node = number_under g form.Double (entry - g.direct - g.indirect) outer in HasBetween indices (data_under g form.Indirect node place) (data_under g form.Indirect node (pointers_of g))
+    let node = number_under g form.Double (entry - g.direct - g.indirect) outer in
+    HasBetween indices (data_under g form.Indirect node place) (data_under g form.Indirect node (pointers_of g))
 
 -- ---- what it needs
 

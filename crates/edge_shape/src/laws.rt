@@ -147,9 +147,9 @@ pub fn a_cut_goes_through_what_stays()
 {}
 
 /// The steps of a cut at an index leave the node with the data blocks before it. What is left stays
-/// where it is, but for the pointer nodes that are split, and those become dirty. So do the steps of
-/// any cut that goes through pointer nodes of which something stays and something goes, where the
-/// same data blocks are before the index as before the first that goes.
+/// where it is, but for the pointer nodes that are split, and those become dirty. So it is with the
+/// steps of any cut that goes through pointer nodes of which something stays and something goes,
+/// where the same data blocks are before the index as before the first that goes.
 pub fn a_cut_leaves_the_indices_before()
     ensures steps { (g : Request) (c v w : View) (n i : ℕ) (cut : Cut) (indices : List ℕ)
         → HasShape g v n indices → GoesThrough g indices cut → TakesFrom g indices cut

@@ -1,12 +1,16 @@
 use Rattle.edge_moves.proofs.SlotLaws.{some_pointers_fit}
-use Rattle.edge_count.proofs.WriteLaws.{fresh_writes, fresh_chain, fresh_two, fresh_run}
+use Rattle.edge_count.proofs.WriteLaws.{fresh_writes, fresh_two, fresh_run}
+use Rattle.edge_count.proofs.ChainLaws.{chain_count, fresh_on_chain-count}
 use Rattle.edge_count.proofs.laws.writes_make_their_chains_dirty.Goals as goal
 
 pub returns-clause-any : goal.returns-clause-any
 returns-clause-any c = fresh_writes
 
 pub returns-clause-one : goal.returns-clause-one
-returns-clause-one c = fresh_chain
+returns-clause-one c = fresh_on_chain-count
+
+pub returns-clause-chain : goal.returns-clause-chain
+returns-clause-chain c = chain_count
 
 pub returns-clause-two : goal.returns-clause-two
 returns-clause-two c = fresh_two
