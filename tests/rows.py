@@ -1,8 +1,8 @@
 #!/usr/bin/env python3
-"""Computes what the table of crates/edge_rows has to answer, from docs/COMMANDS.md and docs/FORMAT.md
-alone, and compares. Lines with a statement or a command that it does not know are counted and left out.
+"""Computes what the tables of crates/edge_rows and crates/edge_part_rows have to answer, from docs/COMMANDS.md
+and docs/FORMAT.md alone, and compares. Lines with a statement that it does not know are counted and left out.
 
-usage: tests/rows.py [STDIN STDOUT]"""
+usage: tests/rows.py [CRATE..]"""
 import os
 import sys
 import tempfile
@@ -430,18 +430,27 @@ def permitted(disk, loose):
             return
 
 
+CRATES = ["edge_rows", "edge_part_rows"]
+
+
 def main():
-    """Judges each row, in an empty folder of its own."""
-    crate = os.path.join(os.path.dirname(os.path.abspath(__file__)), "..", "crates", "edge_rows")
-    names = sys.argv[1:] or [os.path.join(crate, "stdin"), os.path.join(crate, "stdout")]
-    rows, replies = (open(name, encoding="ascii").read().splitlines() for name in names)
-    crate = os.path.abspath(crate)
+    """Judges each row of each table, in an empty folder of its own."""
+    top = os.path.join(os.path.dirname(os.path.abspath(__file__)), "..")
+    crates = [os.path.join(top, "crates", name) for name in sys.argv[1:] or CRATES]
+    return 0 if all([judge(os.path.abspath(crate)) for crate in crates]) else 1
+
+
+def judge(crate):
+    rows, replies = (open(os.path.join(crate, name), encoding="ascii").read().splitlines() for name in ("stdin", "stdout"))
     with tempfile.TemporaryDirectory() as room:
         os.chdir(room)
-        return judge(Table(crate), rows, replies)
+        judged, left, wrong, at = compare(Table(crate), rows, replies)
+        os.chdir(crate)
+    print(f"{os.path.basename(crate)}: {judged} rows judged, {left} left out, {wrong} wrong")
+    return not wrong and at == len(replies)
 
 
-def judge(table, rows, replies):
+def compare(table, rows, replies):
     judged, left, wrong, at = 0, 0, 0, 0
     for line in rows:
         assert replies[at] == line, f"line {at + 1} of the replies is not: {line}"
@@ -461,8 +470,7 @@ def judge(table, rows, replies):
         if wanted != answer:
             wrong += 1
             print(f"{line}\nis answered", *answer, "and not", *wanted, sep="\n")
-    print(f"{judged} rows judged, {left} left out, {wrong} wrong")
-    return 1 if wrong or at != len(replies) else 0
+    return judged, left, wrong, at
 
 
 if __name__ == "__main__":

@@ -110,7 +110,7 @@ def told_command(line):
     if len(line) <= 100:
         return "  " + name + (" { " + ", ".join(f"{field}: {debug(value)}" for field, value in values) + " }" if values else "")
     value = values[-1][1]
-    return f"  {name} of {len(value)} bytes, {zlib.crc32(value):08x}" if name in ("Stat", "Write") else "  another"
+    return f"  {name} of {len(value)} bytes, {zlib.crc32(value):08x}"
 
 
 def spelling_of(path):

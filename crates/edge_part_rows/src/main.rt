@@ -1,0 +1,26 @@
+//! A table of cases of parts that need no disk: the text of scripts and replies, bitmaps, check
+//! words and numbers. Each line of standard input is printed, and below it what it answers.
+//! `docs/TESTING.md` has the statements.
+#![tactic(auto)]
+
+mod bits;
+mod numbers;
+mod reply;
+mod row;
+mod script;
+
+use crate::row::answer_row;
+use anyhow::{Context, Result};
+
+fn main(rt: HostRuntime) -> Result<()> {
+    for line in rt.lines(rt.alloc()) {
+        let line = line?;
+        rt.println(line.as_str())?;
+        if line.is_empty() || line.starts_with('#') {
+            continue;
+        }
+        let answer = answer_row(rt.alloc(), line.as_str()).context("in this line")?;
+        rt.print(answer.as_str())?;
+    }
+    Ok(())
+}
