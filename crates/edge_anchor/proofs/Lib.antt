@@ -1,0 +1,11 @@
+pub mod PlaceLaws
+pub mod ViewLaws
+pub mod PlacedLaws
+pub mod HangLaws
+pub mod FreeLaws
+pub mod LiveLaws
+pub mod OpenLaws
+pub mod KeepLaws
+pub mod CutLaws
+pub mod PointLaws
+pub mod MountLaws

@@ -1,0 +1,4 @@
+pub mod Anchor
+pub mod Medium
+pub mod Opens
+pub mod Stays
