@@ -105,7 +105,7 @@ fn copy_node<S: Store>(s: &mut S) -> Result<Option<u32>, StoreFault>
     s.pointer(Spot { block, ..spot }, 1).map(Some)
 }
 
-// What is read of a block that was dropped.
+// A pointer of a block that was dropped.
 fn read_dropped<S: Store>(s: &mut S) -> Result<bool, StoreFault>
     requires live { IsLive (S.state s.old) }
     requires root { IsNumber (S.state s.old) 2 }
@@ -124,11 +124,88 @@ fn read_dropped<S: Store>(s: &mut S) -> Result<bool, StoreFault>
     Ok(true)
 }
 
-fn new_store(rt: &impl Abort, alloc: Global) -> Result<PlainStore, AllocError>
-    ensures live { IfOk result (λ s. IsLive (state_of s)) }
-    ensures request { IfOk result (λ s. (state_of s).origin.request ≡ REQUEST) }
+// A pointer of a block that was taken under a form as one of the root's, and is read as an indirect
+// node of an owner.
+fn read_as<S: Store>(s: &mut S, form: Form, owner: u32) -> Result<Option<u32>, StoreFault>
+    requires live { IsLive (S.state s.old) }
+    requires root { IsNumber (S.state s.old) 2 }
+    requires owner { IsNumber (S.state s.old) owner }
+    requires place { 1 < pointers_of (S.state s.old).origin.request }
 {
-    let Ok(geometry) = Geometry::checked(REQUEST) else {
+    if s.free().now == 0 {
+        return Ok(None);
+    }
+    let node = Spot {
+        block: s.take(form, 2)?,
+        form: Form::Indirect,
+        owner,
+    };
+    s.pointer(node, 1).map(Some)
+}
+
+// The root, named and without an inode.
+fn tell_dropped_root<S: Store>(s: &mut S) -> Result<(), StoreFault>
+    requires live { IsLive (S.state s.old) }
+    requires root { IsNumber (S.state s.old) 2 }
+{
+    if s.head(2)?.is_none() {
+        return Ok(());
+    }
+    s.drop_inode(2)?;
+    let block = s.geometry().inode_place(2, false);
+    Err(s.report(Damage {
+        block,
+        kind: DamageKind::NotUsed,
+    }))
+}
+
+// The root with a size that no directory has.
+fn tell_size<S: Store>(s: &mut S) -> Result<(), StoreFault>
+    requires live { IsLive (S.state s.old) }
+    requires root { IsNumber (S.state s.old) 2 }
+{
+    let Some(head) = s.head(2)? else {
+        return Ok(());
+    };
+    let Some(size) = s.geometry().max_size().checked_add(1) else {
+        return Ok(());
+    };
+    s.set_head(2, Head { size, ..head })?;
+    let block = s.inode_block(2)?;
+    Err(s.report(Damage {
+        block,
+        kind: DamageKind::WrongShape,
+    }))
+}
+
+// The root, while fewer than three blocks are free.
+fn tell_few<S: Store>(s: &mut S) -> Result<(), StoreFault>
+    requires live { IsLive (S.state s.old) }
+    requires root { IsNumber (S.state s.old) 2 }
+{
+    if s.head(2)?.is_none() || s.free().now == 0 {
+        return Ok(());
+    }
+    s.take(Form::Plain, 2)?;
+    let block = s.inode_block(2)?;
+    if s.free().now > 2 {
+        return Ok(());
+    }
+    Err(s.report(Damage {
+        block,
+        kind: DamageKind::Tangled,
+    }))
+}
+
+fn damaged(block: u32, kind: DamageKind) -> StoreFault {
+    StoreFault::Damaged(Damage { block, kind })
+}
+
+fn new_store(rt: &impl Abort, alloc: Global, request: Request) -> Result<PlainStore, AllocError>
+    ensures live { IfOk result (λ s. IsLive (state_of s)) }
+    ensures request { IfOk result (λ s. (state_of s).origin.request ≡ request) }
+{
+    let Ok(geometry) = Geometry::checked(request) else {
         panic!(rt; "no geometry");
     };
     PlainStore::new(alloc, geometry)
@@ -136,30 +213,65 @@ fn new_store(rt: &impl Abort, alloc: Global) -> Result<PlainStore, AllocError>
 
 #[test]
 fn inodes_are_made_and_dropped(rt: HostRuntime) -> Result<(), Fail> {
-    let mut s = new_store(&rt, rt.alloc())?;
+    let mut s = new_store(&rt, rt.alloc(), REQUEST)?;
     assert_eq!(rt; make_inode(&mut s), Ok(Some((3, 5, 600))));
     assert_eq!(rt; s.free_inodes(), 6);
-    let mut s = new_store(&rt, rt.alloc())?;
+    let mut s = new_store(&rt, rt.alloc(), REQUEST)?;
     assert_eq!(rt; drop_root(&mut s), Ok(Some((19, false))));
     Ok(())
 }
 
 #[test]
 fn blocks_are_written_copied_and_dropped(rt: HostRuntime) -> Result<(), Fail> {
-    let mut s = new_store(&rt, rt.alloc())?;
+    let mut s = new_store(&rt, rt.alloc(), REQUEST)?;
     let mut out = [0; 3];
     assert_eq!(rt; write_bytes(&mut s, b"abc", &mut out), Ok(true));
     assert_eq!(rt; out.as_slice(), b"abc".as_slice());
     assert_eq!(rt; s.free(), Free { now: 44, after: 44 });
-    let mut s = new_store(&rt, rt.alloc())?;
+    let mut s = new_store(&rt, rt.alloc(), REQUEST)?;
     assert_eq!(rt; copy_node(&mut s), Ok(Some(19)));
     assert_eq!(rt; s.free(), Free { now: 43, after: 44 });
-    let mut s = new_store(&rt, rt.alloc())?;
-    let damage = Damage {
-        block: 19,
-        kind: DamageKind::NotUsed,
+    Ok(())
+}
+
+#[test]
+fn damage_that_is_met_is_told(rt: HostRuntime) -> Result<(), Fail> {
+    let mut s = new_store(&rt, rt.alloc(), REQUEST)?;
+    assert_eq!(rt; read_dropped(&mut s), Err(damaged(19, DamageKind::NotUsed)));
+    assert!(rt; !s.is_live());
+    let mut s = new_store(&rt, rt.alloc(), REQUEST)?;
+    assert_eq!(rt;
+        read_as(&mut s, Form::Plain, 2),
+        Err(damaged(19, DamageKind::WrongSignature))
+    );
+    let mut s = new_store(&rt, rt.alloc(), REQUEST)?;
+    assert_eq!(rt;
+        read_as(&mut s, Form::Double, 3),
+        Err(damaged(19, DamageKind::WrongSignature))
+    );
+    let mut s = new_store(&rt, rt.alloc(), REQUEST)?;
+    assert_eq!(rt;
+        read_as(&mut s, Form::Indirect, 3),
+        Err(damaged(19, DamageKind::WrongOwner))
+    );
+    Ok(())
+}
+
+#[test]
+fn damage_that_a_caller_found_is_told(rt: HostRuntime) -> Result<(), Fail> {
+    let mut s = new_store(&rt, rt.alloc(), REQUEST)?;
+    assert_eq!(rt;
+        tell_dropped_root(&mut s),
+        Err(damaged(3, DamageKind::NotUsed))
+    );
+    let mut s = new_store(&rt, rt.alloc(), REQUEST)?;
+    assert_eq!(rt; tell_size(&mut s), Err(damaged(3, DamageKind::WrongShape)));
+    let three = Request {
+        blocks: 22,
+        ..REQUEST
     };
-    assert_eq!(rt; read_dropped(&mut s), Err(StoreFault::Damaged(damage)));
+    let mut s = new_store(&rt, rt.alloc(), three)?;
+    assert_eq!(rt; tell_few(&mut s), Err(damaged(3, DamageKind::Tangled)));
     assert!(rt; !s.is_live());
     Ok(())
 }
