@@ -6,9 +6,9 @@ use Rattle.edge_store.specs.declared.fault.StoreFault.{StoreFault}
 use Rattle.edge_store.specs.declared.spot.Spot.{Spot}
 use Rattle.edge_store.specs.Calls.{NeverDamaged, TellsDamage, TellsNoTangle}
 use Rattle.edge_store.specs.Damages.{IsLinked}
-use Rattle.edge_store.specs.Placed.{data_block, pointer_at, IsShaped}
+use Rattle.edge_store.specs.Placed.{entry_at, data_block, pointer_at, IsShaped}
 use Rattle.edge_store.specs.State.{StoreState, Told}
-use Rattle.edge_store.specs.View.{is_spot, is_whole}
+use Rattle.edge_store.specs.View.{is_spot, is_link, is_whole}
 use Rattle.edge_moves.specs.Sound.{IsSound}
 
 -- ---- damage
@@ -24,6 +24,15 @@ NeverOnShaped s n result = Told s → IsShaped s.origin.request s.working n → 
 -- nothing is told of a node that can be read and whose pointers are sound
 abbrev pub NeverOnSound : {T : Type 0} → StoreState → ℕ → Result T StoreFault → Type 0
 NeverOnSound s n result = Told s → is_whole (s.working.inodes n) ≡ true → IsSound s.origin.request s.working n → NeverDamaged result
+
+-- nothing is told of an inode that can be read, where the entry is absent or leads to an allocable block
+abbrev pub NeverOnGoodEntry : {T : Type 0} → StoreState → ℕ → ℕ → Result T StoreFault → Type 0
+NeverOnGoodEntry s n e result = Told s → is_whole (s.working.inodes n) ≡ true → is_link s.origin.request (entry_at s.working n e) ≡ true → NeverDamaged result
+
+-- nothing is told of a pointer node that is used with its form and owner, where the pointer is absent or leads to an allocable block
+abbrev pub NeverOnGoodPointer : {T : Type 0} → StoreState → Spot → ℕ → Result T StoreFault → Type 0
+NeverOnGoodPointer s spot i result = Told s → is_spot s.working spot.form spot.owner spot.block ≡ true
+    → is_link s.origin.request (pointer_at s.working spot.form spot.block i) ≡ true → NeverDamaged result
 
 -- no tangled node is told
 abbrev pub NeverTangled : {T : Type 0} → StoreState → Result T StoreFault → Type 0

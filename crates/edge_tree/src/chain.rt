@@ -25,7 +25,7 @@ pub struct Chain {
 }
 
 /// What making a block new takes from the free blocks: 1 where it is absent or of the last point.
-fn cost_of<S: Store>(s: &mut S, b: u32) -> Result<u32, StoreFault>
+pub fn cost_of<S: Store>(s: &mut S, b: u32) -> Result<u32, StoreFault>
     requires live { IsLive (S.state s.old) }
     requires link { IsLink (S.state s.old) b }
     ensures called { Called (S.state s.old) (S.state s.new) result }

@@ -9,7 +9,8 @@ mod tests;
 mod walk;
 mod writable;
 
-pub use chain::{Chain, chain_of};
-pub use own::tangled;
+pub use chain::{Chain, chain_of, cost_of};
+pub use link::{entry_link, pointer_link};
+pub use own::{own_entry, own_pointer, tangled};
 pub use walk::block_of;
 pub use writable::make_writable;

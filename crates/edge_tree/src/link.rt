@@ -7,7 +7,7 @@ ghost use Rattle.edge_store.specs.Damages.{form_of_entry, form_under};
 ghost use Rattle.edge_store.specs.State.{IsLive, IsNumber, IsLink, HasInode};
 ghost use Rattle.edge_store.specs.Told.{IsEntryOf};
 ghost use Rattle.edge_store.specs.View.{is_link};
-ghost use Rattle.edge_tree.specs.Answers.{TellsWhatIs, NeverTangled, NeverOnSound, IsLinkedTo, IsLinkedSpot, IsReadable, IsSpotOf, IsPointerAt};
+ghost use Rattle.edge_tree.specs.Answers.{TellsWhatIs, NeverTangled, NeverOnSound, NeverOnGoodEntry, NeverOnGoodPointer, IsLinkedTo, IsLinkedSpot, IsReadable, IsSpotOf, IsPointerAt};
 
 use edge_base::{Damage, DamageKind};
 use edge_store::{Spot, Store, StoreFault};
@@ -22,7 +22,7 @@ fn is_good<S: Store>(s: &S, b: u32) -> bool
 
 /// An entry of an inode, absent or allocable. One outside the allocable blocks is damage of the
 /// inode's place.
-pub(crate) fn entry_link<S: Store>(s: &mut S, n: u32, i: u32) -> Result<u32, StoreFault>
+pub fn entry_link<S: Store>(s: &mut S, n: u32, i: u32) -> Result<u32, StoreFault>
     requires live { IsLive (S.state s.old) }
     requires number { IsNumber (S.state s.old) n }
     requires there { HasInode (S.state s.old) n }
@@ -36,6 +36,7 @@ pub(crate) fn entry_link<S: Store>(s: &mut S, n: u32, i: u32) -> Result<u32, Sto
     ensures damage { TellsWhatIs (S.state s.old) (S.state s.new) result }
     ensures untangled { NeverTangled (S.state s.old) result }
     ensures undamaged { NeverOnSound (S.state s.old) n result }
+    ensures good { NeverOnGoodEntry (S.state s.old) n i result }
     ensures link { IfOk result (IsLink (S.state s.old)) }
     ensures readable { OnOk result (IsReadable (S.state s.old) n) }
     ensures entry { IfOk result (IsEntryOf (S.state s.old) n i) }
@@ -55,7 +56,7 @@ pub(crate) fn entry_link<S: Store>(s: &mut S, n: u32, i: u32) -> Result<u32, Sto
 
 /// A pointer of a pointer node, absent or allocable; absent where the node is. One outside the
 /// allocable blocks is damage of the node.
-pub(crate) fn pointer_link<S: Store>(s: &mut S, at: Spot, i: u32) -> Result<u32, StoreFault>
+pub fn pointer_link<S: Store>(s: &mut S, at: Spot, i: u32) -> Result<u32, StoreFault>
     requires live { IsLive (S.state s.old) }
     requires block { IsLink (S.state s.old) at.block }
     requires owner { IsNumber (S.state s.old) at.owner }
@@ -71,6 +72,7 @@ pub(crate) fn pointer_link<S: Store>(s: &mut S, at: Spot, i: u32) -> Result<u32,
     ensures damage { TellsWhatIs (S.state s.old) (S.state s.new) result }
     ensures untangled { NeverTangled (S.state s.old) result }
     ensures undamaged { NeverOnSound (S.state s.old) at.owner result }
+    ensures good { NeverOnGoodPointer (S.state s.old) at i result }
     ensures link { IfOk result (IsLink (S.state s.old)) }
     ensures spot { OnOk result (IsSpotOf (S.state s.old) at) }
     ensures pointer { IfOk result (IsPointerAt (S.state s.old) at i) }

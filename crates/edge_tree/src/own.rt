@@ -76,7 +76,7 @@ fn renew<S: Store>(s: &mut S, from: Spot) -> Result<u32, StoreFault>
 }
 
 /// Makes the block of an entry new, as a block of the form that the entry leads to.
-pub(crate) fn own_entry<S: Store>(s: &mut S, n: u32, i: u32, form: Form) -> Result<u32, StoreFault>
+pub fn own_entry<S: Store>(s: &mut S, n: u32, i: u32, form: Form) -> Result<u32, StoreFault>
     requires live { IsLive (S.state s.old) }
     requires number { IsNumber (S.state s.old) n }
     requires there { HasInode (S.state s.old) n }
@@ -110,7 +110,7 @@ pub(crate) fn own_entry<S: Store>(s: &mut S, n: u32, i: u32, form: Form) -> Resu
 }
 
 /// Makes the block in a place of a pointer node new. The node itself is new.
-pub(crate) fn own_pointer<S: Store>(s: &mut S, at: Spot, i: u32) -> Result<u32, StoreFault>
+pub fn own_pointer<S: Store>(s: &mut S, at: Spot, i: u32) -> Result<u32, StoreFault>
     requires live { IsLive (S.state s.old) }
     requires block { IsAllocable (S.state s.old) at.block }
     requires owner { IsNumber (S.state s.old) at.owner }

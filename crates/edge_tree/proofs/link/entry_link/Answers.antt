@@ -58,3 +58,11 @@ returns-in_err-b-clause-untangled g c told d e =
     let old = g.S.Store.state c.args.s.now in
     let p = err_from_is_err_and c.from_residual.result c.from_residual.ensures.1 in
     inode_untangled old (g.S.Store.state c.entry.new.self) c.args.n (Err c.in_err-b.field-0.0) (g.met.S.Store.working_is_view c.args.s.now told c.requires.live) (c.in_err-b.ensures.damage told) d (ap Err (sym p.2) ∙ sym p.1 ∙ e)
+
+pub returns-clause-good : goal.returns-clause-good
+returns-clause-good g c told is good =
+    let old = g.S.Store.state c.args.s.now in
+    let first = c.in_ok-b.ensures in
+    let bad : is_link old.origin.request (entry_at old.working c.args.n c.args.i) ≡ false =
+    ap (is_link old.origin.request) (sym (first.entry told)) ∙ ap (λ (o : Origin). is_link o.request c.in_ok-b.b) (sym first.called.origin) ∙ sym c.is_good.ensures ∙ c.if-is_good.false in
+    λ d e. let h : true ≡ false = sym good ∙ bad in cc

@@ -74,3 +74,21 @@ returns-in_err-b-clause-untangled g c told d e =
     let at = c.args.at in
     let p = err_from_is_err_and c.from_residual.result c.from_residual.ensures.1 in
     block_untangled old (g.S.Store.state c.pointer.new.self) at.form at.owner at.block (Err c.in_err-b.field-0.0) (c.in_err-b.ensures.damage told) d (ap Err (sym p.2) ∙ sym p.1 ∙ e)
+
+pub returns-in_err-b-clause-good : goal.returns-in_err-b-clause-good
+returns-in_err-b-clause-good g c told spot link d e =
+    let old = g.S.Store.state c.args.s.now in
+    let at = c.args.at in
+    let p = err_from_is_err_and c.from_residual.result c.from_residual.ensures.1 in
+    let met = (c.in_err-b.ensures.damage told).that d (ap Err (sym p.2) ∙ sym p.1 ∙ e) in
+    let none = no_damage_of old.working at.form at.owner at.block spot in
+    let h : Some d ≡ None = sym met ∙ none in cc
+
+pub returns-clause-good : goal.returns-clause-good
+returns-clause-good g c told spot good =
+    let old = g.S.Store.state c.args.s.now in
+    let at = c.args.at in
+    let first = c.in_ok-b.ensures in
+    let bad : is_link old.origin.request (pointer_at old.working at.form at.block c.args.i) ≡ false =
+    ap (is_link old.origin.request) (pointer_is old.working at.form at.block c.args.i c.if-at-eq0.false ∙ sym (first.pointer told)) ∙ ap (λ (o : Origin). is_link o.request c.in_ok-b.b) (sym first.called.origin) ∙ sym c.is_good.ensures ∙ c.if-is_good.false in
+    λ d e. let h : true ≡ false = sym good ∙ bad in cc
