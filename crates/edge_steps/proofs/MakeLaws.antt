@@ -116,7 +116,7 @@ no_slots t n absent j = by_node (t n) refl
     by_node (Some x) is = absurd (false≢true (sym absent ∙ ap (λ (o : Option Node). is_some o) is))
 
 -- a number that no slot names is named 0 times
-none_before : (g : Request) (t : Tree) (n : ℕ) → ((x j : ℕ) (f : Entry) → slot_at t x j ≡ Some f → f.number ≡ n → ⊥) → names_of_number g t n ≡ 0
+pub none_before : (g : Request) (t : Tree) (n : ℕ) → ((x j : ℕ) (f : Entry) → slot_at t x j ≡ Some f → f.number ≡ n → ⊥) → names_of_number g t n ≡ 0
 none_before g t n never = ⊎_elim
     (λ (none : names_of_number g t n ≡ 0). none)
     (λ (some : names_of_number g t n ≡ 0 → ⊥). let r = some_slot g t n (omega arith) in absurd (never r.0 r.1 r.2 r.5 r.6))

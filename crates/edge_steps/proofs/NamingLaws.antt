@@ -1,17 +1,19 @@
 -- How many slots name a number, after a name is placed, cleared or moved.
-use Rattle.std.proofs.Common.{◌≡◌, ◌≢◌, ℕ, ◌+◌, ◌<◌, ◌≤◌, ◌==◌, Bool, true, false, cond, List, [], length, ⊎_elim, unwrap_or, Option, Some, None, refl, sym, ap, ◌∙◌, arith}
-use Rattle.std.proofs.lemmas.Bool.{cases_eq}
+use Rattle.std.proofs.Common.{◌≡◌, ◌≢◌, ℕ, ◌+◌, ◌<◌, ◌≤◌, ◌==◌, Bool, true, false, cond, List, [], length, is_some, ⊎_elim, unwrap_or, Option, Some, None, refl, sym, ap, ◌∙◌, arith}
+use Rattle.std.proofs.lemmas.Bool.{false≢true, cases_eq}
 use Rattle.edge_base.specs.declared.geometry.Request.{Request}
 use Rattle.edge_base.specs.tree.Slots.{Entry, Slots}
 use Rattle.edge_base.specs.tree.Nodes.{Node, file}
 use Rattle.edge_model.specs.Named.{placed, cleared}
 use Rattle.edge_model.specs.Names.{renamed, has_one_link}
+use Rattle.edge_model.specs.Rules.{IsTree}
 use Rattle.edge_model.specs.Tree.{Tree, is_directory, slots_at, slots_of_node, names_of_number, with_node}
 use Rattle.edge_model.specs.Walk.{Found, within}
 use Rattle.edge_steps.specs.Naming.{slot_of, names_once}
 use Rattle.edge_steps.proofs.SlotLaws.{slot_in, none_some}
-use Rattle.edge_steps.proofs.CountLaws.{ones, slot_at, SameSlots, SlotSet, same_names, names_changed}
+use Rattle.edge_steps.proofs.CountLaws.{ones, slot_at, SameSlots, SlotSet, same_names, names_changed, slot_names}
 use Rattle.edge_steps.proofs.NodeLaws.{node_set, slots_others, same_kinds, placed_set, cleared_set, placed_slot, cleared_slot}
+use Rattle.edge_steps.proofs.MakeLaws.{none_before}
 use Rattle.edge_steps.proofs.RenameLaws.{parent_set}
 
 pub placed_names : (g : Request) (t : Tree) (d slot : ℕ) (e : Entry) (n : ℕ) → is_directory t d ≡ true → 2 ≤ d → d < 2 + g.inodes → slot ≤ length (slots_at t d)
@@ -26,6 +28,17 @@ cleared_names g t d slot n kind low high =
 
 pub unchanged_names : (g : Request) (t u : Tree) (n : ℕ) → ((d : ℕ) → slots_at u d ≡ slots_at t d) → names_of_number g u n ≡ names_of_number g t n
 unchanged_names g t u n same = same_names g t u n (record { same = λ x j. ap (λ (slots : Slots). slot_in slots j) (same x) })
+
+-- where the new node of a number has the slots of the old one
+pub set_names : (g : Request) (t : Tree) (n : ℕ) (node : Option Node) (m : ℕ) → slots_at (with_node t n node) n ≡ slots_at t n → names_of_number g (with_node t n node) m ≡ names_of_number g t m
+set_names g t n node m same = unchanged_names g t (with_node t n node) m (λ d. ⊎_elim
+    (λ (here : d ≡ n). ap (slots_at (with_node t n node)) here ∙ same ∙ ap (slots_at t) (sym here))
+    (λ (other : d ≡ n → ⊥). slots_others t (with_node t n node) n node d (node_set t n node) other)
+    (cases_eq d n))
+
+-- nothing names a number without a node
+pub absent_names : (g : Request) (t : Tree) (n : ℕ) → IsTree g t → t n ≡ None → names_of_number g t n ≡ 0
+absent_names g t n tree none = none_before g t n (λ x j f at is. false≢true (sym (ap (λ (o : Option Node). is_some o) none) ∙ (tree.named x n (slot_names t x j n f at is)).0))
 
 pub placed_kinds : (t : Tree) (d slot : ℕ) (e : Entry) (n : ℕ) → is_directory t d ≡ true → is_directory (placed t d slot e) n ≡ is_directory t n
 placed_kinds t d slot e n kind = (same_kinds t (placed t d slot e) d _ (placed_set t d slot e kind)).kinds n

@@ -1,4 +1,4 @@
-ghost use Rattle.std.specs.Prelude.{◌≡◌, ◌≢◌, ◌<◌, ◌≤◌, ℕ, ◌+◌, ◌++◌, [], true, length, nat_le, List, All, Ok, Err, Option, Some};
+ghost use Rattle.std.specs.Prelude.{◌≡◌, ◌≢◌, ◌<◌, ◌≤◌, ℕ, ◌+◌, ◌++◌, [], true, length, nat_le, List, All, Ok, Err, Option, Some, None};
 ghost use Rattle.edge_base.specs.declared.geometry.Request.{Request};
 ghost use Rattle.edge_base.specs.declared.refusal.Refusal.TheVariants.{NoSpace};
 ghost use Rattle.edge_base.specs.commands.Events.{has_event, full};
@@ -112,7 +112,8 @@ pub fn a_point_changes_no_plan()
 
 /// How many slots name a number after a slot is filled or cleared: one less if what it held named
 /// it, and one more if what it holds does. A rename leaves the node that it moves as many names as
-/// it had, and takes one from what it replaces. Kinds stay, and where no slots change no names do.
+/// it had, and takes one from what it replaces. Kinds stay; where no slots change no names do, and
+/// nothing names a number without a node.
 pub fn names_are_counted()
     ensures placed { (g : Request) (t : Tree) (d slot : ℕ) (e : Entry) (n : ℕ)
         → is_directory t d ≡ true → 2 ≤ d → d < 2 + g.inodes → slot ≤ length (slots_at t d)
@@ -135,6 +136,11 @@ pub fn names_are_counted()
     ensures same_slots { (g : Request) (t u : Tree) (n : ℕ)
         → ((d : ℕ) → slots_at u d ≡ slots_at t d)
         → names_of_number g u n ≡ names_of_number g t n }
+    ensures set { (g : Request) (t : Tree) (n : ℕ) (node : Option Node) (m : ℕ)
+        → slots_at (with_node t n node) n ≡ slots_at t n
+        → names_of_number g (with_node t n node) m ≡ names_of_number g t m }
+    ensures absent { (g : Request) (t : Tree) (n : ℕ)
+        → IsTree g t → t n ≡ None → names_of_number g t n ≡ 0 }
     ensures placed_kinds { (t : Tree) (d slot : ℕ) (e : Entry) (n : ℕ) → is_directory t d ≡ true
         → is_directory (placed t d slot e) n ≡ is_directory t n }
     ensures cleared_kinds { (t : Tree) (d slot n : ℕ) → is_directory t d ≡ true

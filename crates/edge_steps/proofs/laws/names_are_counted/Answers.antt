@@ -1,4 +1,4 @@
-use Rattle.edge_steps.proofs.NamingLaws.{placed_names, cleared_names, renamed_names, unchanged_names, placed_kinds, cleared_kinds}
+use Rattle.edge_steps.proofs.NamingLaws.{placed_names, cleared_names, renamed_names, unchanged_names, set_names, absent_names, placed_kinds, cleared_kinds}
 use Rattle.edge_steps.proofs.laws.names_are_counted.Goals as goal
 
 pub returns-clause-placed : goal.returns-clause-placed
@@ -13,6 +13,12 @@ returns-clause-renamed c = λ g t df name found dt target slot replaced e n kind
 
 pub returns-clause-same_slots : goal.returns-clause-same_slots
 returns-clause-same_slots c = unchanged_names
+
+pub returns-clause-set : goal.returns-clause-set
+returns-clause-set c = set_names
+
+pub returns-clause-absent : goal.returns-clause-absent
+returns-clause-absent c = absent_names
 
 pub returns-clause-placed_kinds : goal.returns-clause-placed_kinds
 returns-clause-placed_kinds c = placed_kinds
