@@ -25,7 +25,8 @@ count_once test (p ∷ ps) once = sum_by-cons (λ q. cond (test q) 1 0) p ps ∙
     new : has (filter test ps) p ≡ false
     new = has-filter test ps p ∙ (λ t. once.0 t && test p)
 
-    by : (t : Bool) → count_by test ps ≡ count_of (filter test ps) → ◌≡◌ {A = ℕ} (cond t 1 0 + count_by test ps) (count_of (cond t (p ∷ filter test ps) (filter test ps)))
+    by : (t : Bool) → count_by test ps ≡ count_of (filter test ps)
+        → ◌≡◌ {A = ℕ} (cond t 1 0 + count_by test ps) (count_of (cond t (p ∷ filter test ps) (filter test ps)))
     by true rest = let more : count_of (p ∷ filter test ps) ≡ suc (count_of (filter test ps)) = λ t. length (cond (new t) (unique_keys same_position (filter test ps)) (p ∷ unique_keys same_position (filter test ps))) in omega (arith, rest, more)
     by false rest = omega (arith, rest)
 
@@ -36,7 +37,8 @@ chain_once g n i = (above_plain g n i i, by (ltb i g.direct) (ltb ((i - g.direct
     off true t = refl
     off false t = refl
 
-    by : (s t : Bool) → Once (cond s [] (indirect_at n ((i - g.direct) / pointers_of g) ∷ cond t [] (double_at n (((i - g.direct) / pointers_of g - g.indirect) / pointers_of g) ∷ [])))
+    by : (s t : Bool)
+        → Once (cond s [] (indirect_at n ((i - g.direct) / pointers_of g) ∷ cond t [] (double_at n (((i - g.direct) / pointers_of g - g.indirect) / pointers_of g) ∷ [])))
     by true t = tt
     by false true = (refl, tt)
     by false false = (off (n == n) ((i - g.direct) / pointers_of g == ((i - g.direct) / pointers_of g - g.indirect) / pointers_of g), (refl, tt))

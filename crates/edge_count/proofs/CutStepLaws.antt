@@ -47,7 +47,9 @@ before_is i x indices = any-filter (λ k. nat_lt k i) (λ k. k == x) indices ∙
 -- a position that is removed is of the node that is cut
 pub removed_number : (n i : ℕ) (indices : List ℕ) (m x : ℕ) → m ≢ n → has (removed n i indices) (data_at m x) ≡ false
 removed_number n i indices m x away = is_false _ (λ h.
-    let f = found (λ y. same_position (data_at m x) (data_at n y)) (filter (λ y. nat_le i y) indices) (sym (any_map (same_position (data_at m x)) (data_at n) (filter (λ y. nat_le i y) indices)) ∙ h) in
+    let f =
+    found (λ y. same_position (data_at m x) (data_at n y)) (filter (λ y. nat_le i y) indices)
+    (sym (any_map (same_position (data_at m x)) (data_at n) (filter (λ y. nat_le i y) indices)) ∙ h) in
     away (ap (λ (r : Position). r.number) ((same_position_Decides (data_at m x) (data_at n f.0)).0 f.2)))
 
 -- where what is written besides is there anyway, it changes nothing
@@ -67,7 +69,8 @@ kept_besides p r s off = λ t. p && not (left t)
 
 -- ---- a cut, with what is written and removed besides
 
-module _ (g : Request) (c v : View) (n i : ℕ) (indices : List ℕ) (shape : HasShape g v n indices) (writes removes : List Position) (elsewhere : AreElsewhere n removes) where
+module _ (g : Request) (c v : View) (n i : ℕ) (indices : List ℕ) (shape : HasShape g v n indices) (writes removes : List Position)
+    (elsewhere : AreElsewhere n removes) where
   abbrev gone : List Position
   gone = removed n i indices
 
@@ -89,7 +92,9 @@ module _ (g : Request) (c v : View) (n i : ℕ) (indices : List ℕ) (shape : Ha
 
   -- the cut alone has a part of what is fresh
   with_others : (x : ℕ) → has_after g c v [] gone n x ≡ true → has_after g c v writes all n x ≡ true
-  with_others x h = or_right (has writes (data_at n x)) _ ((λ t. not (data_block g v n x == 0) && not (has-append gone removes (data_at n x) t)) ∙ kept_besides (not (data_block g v n x == 0)) (has gone (data_at n x)) (has removes (data_at n x)) (not_removed x) ∙ h)
+  with_others x h =
+      or_right (has writes (data_at n x)) _
+      ((λ t. not (data_block g v n x == 0) && not (has-append gone removes (data_at n x) t)) ∙ kept_besides (not (data_block g v n x == 0)) (has gone (data_at n x)) (has removes (data_at n x)) (not_removed x) ∙ h)
 
   pub part_number : (p : Position) → part p ≡ true → p.number ≡ n
   part_number p h = touched_number g c v n i indices shape p h
@@ -108,7 +113,8 @@ module _ (g : Request) (c v : View) (n i : ℕ) (indices : List ℕ) (shape : Ha
   part_stays p h there =
       let r = there_by g c v [] gone p there in
       let number = part_number p h in
-      there_from g c v writes all p r.0 r.1 (subst (λ (m : ℕ). has_after g c v writes all m r.0 ≡ true) (sym number) (with_others r.0 (subst (λ (m : ℕ). has_after g c v [] gone m r.0 ≡ true) number r.2))) r.3
+      there_from g c v writes all p r.0 r.1
+      (subst (λ (m : ℕ). has_after g c v writes all m r.0 ≡ true) (sym number) (with_others r.0 (subst (λ (m : ℕ). has_after g c v [] gone m r.0 ≡ true) number r.2))) r.3
 
   -- What a cut needs is a part of what the whole change needs.
   pub cut_part : cut_need g c v n i ≤ fresh_count g c v writes all
@@ -116,15 +122,19 @@ module _ (g : Request) (c v : View) (n i : ℕ) (indices : List ℕ) (shape : Ha
   cut_part =
       subst (λ (m : ℕ). m ≤ count_of (fresh_positions g c v writes all)) (fresh_cut g c v n i indices shape)
       (count_of-le_from_has (fresh_positions g c v [] gone) (fresh_positions g c v writes all) (λ p h.
-      let parts = and_parts (part p) (is_there_after g c v [] gone p && not (is_dirty g c v p)) (sym (has-filter (λ q. is_there_after g c v [] gone q && not (is_dirty g c v q)) (touched g (λ q. false) [] gone) p) ∙ h) in
+      let parts =
+      and_parts (part p) (is_there_after g c v [] gone p && not (is_dirty g c v p))
+      (sym (has-filter (λ q. is_there_after g c v [] gone q && not (is_dirty g c v q)) (touched g (λ q. false) [] gone) p) ∙ h) in
       let two = and_parts (is_there_after g c v [] gone p) (not (is_dirty g c v p)) parts.1 in
       has-filter (λ q. is_there_after g c v writes all q && not (is_dirty g c v q)) (touched g (λ q. false) writes all) p
       ∙ and_from _ _ (part_touches p ∙ or_left (part p) (touches g c v writes removes p) parts.0) (and_from _ _ (part_stays p parts.0 two.0) two.1)))
 
 -- ---- the step
 
-module _ (g : Request) (c v w : View) (n i : ℕ) (indices : List ℕ) (shape : HasShape g v n indices) (cut : IsCut g c v w n i indices) (writes removes : List Position)
-    (of_writes : AreOfOrKept g v w n writes) (among : AreAmong n (before i indices) writes) (of_removes : AreKept g v w removes) (elsewhere : AreElsewhere n removes) where
+module _ (g : Request) (c v w : View) (n i : ℕ) (indices : List ℕ) (shape : HasShape g v n indices) (cut : IsCut g c v w n i indices)
+    (writes removes : List Position)
+    (of_writes : AreOfOrKept g v w n writes) (among : AreAmong n (before i indices) writes) (of_removes : AreKept g v w removes)
+    (elsewhere : AreElsewhere n removes) where
   abbrev goes : List Position
   goes = removed n i indices
 
@@ -161,7 +171,8 @@ module _ (g : Request) (c v w : View) (n i : ℕ) (indices : List ℕ) (shape : 
       twice false = refl
 
   same_here : (m x : ℕ) → m ≡ n → has_after g c v writes both m x ≡ has_after g c w writes removes m x
-  same_here m x here = ap (λ (k : ℕ). has_after g c v writes both k x) here ∙ at_first x ∙ sym (ap (λ (k : ℕ). has_after g c w writes removes k x) here ∙ at_last x)
+  same_here m x here =
+      ap (λ (k : ℕ). has_after g c v writes both k x) here ∙ at_first x ∙ sym (ap (λ (k : ℕ). has_after g c w writes removes k x) here ∙ at_last x)
 
   same_after : (m x : ℕ) → (m ≡ n) ⊎ KeepsBlocks g v w m → x < max_blocks_of g → has_after g c v writes both m x ≡ has_after g c w writes removes m x
   same_after m x (inl here) low = same_here m x here
@@ -169,7 +180,8 @@ module _ (g : Request) (c v w : View) (n i : ℕ) (indices : List ℕ) (shape : 
     | inl here ↦ same_here m x here
     | inr away ↦
         (λ t. has writes (data_at m x) || (not (data_block g v m x == 0) && not (has-append goes removes (data_at m x) t)))
-        ∙ (λ t. has writes (data_at m x) || (not (sym (kept.places Plain x low) t == 0) && not (removed_number n i indices m x away t || has removes (data_at m x))))
+        ∙ (λ t.
+        has writes (data_at m x) || (not (sym (kept.places Plain x low) t == 0) && not (removed_number n i indices m x away t || has removes (data_at m x))))
   ]
 
   -- ---- a position that is touched besides
@@ -180,7 +192,9 @@ module _ (g : Request) (c v w : View) (n i : ℕ) (indices : List ℕ) (shape : 
   same_there : (p : Position) → touches g c w writes removes p ≡ true → is_there_after g c v writes both p ≡ is_there_after g c w writes removes p
   same_there p named =
       there_is g c v writes both p
-      ∙ range_same (under g c v writes both p) (under g c w writes removes p) 0 (max_blocks_of g) (λ x below. ap (λ t. t && is_on_chain g p.form p.index x) (same_after p.number x (of_node p named) (let high : x < 0 + max_blocks_of g = below in let e : x < max_blocks_of g = omega arith in e)))
+      ∙ range_same (under g c v writes both p) (under g c w writes removes p) 0 (max_blocks_of g)
+      (λ x below.
+      ap (λ t. t && is_on_chain g p.form p.index x) (same_after p.number x (of_node p named) (let high : x < 0 + max_blocks_of g = below in let e : x < max_blocks_of g = omega arith in e)))
       ∙ sym (there_is g c w writes removes p)
 
   -- a position of the node that is there at the end is one that is left
@@ -196,7 +210,8 @@ module _ (g : Request) (c v w : View) (n i : ℕ) (indices : List ℕ) (shape : 
       there_from g c v [] goes (numbered n form m) r.0 r.1 (alone g c v n i indices shape writes removes elsewhere r.0 ∙ sym (at_first r.0) ∙ r.2) r.3
 
   -- of those that are left the ones above what is removed are split
-  at_node : (form : Form) (m : ℕ) → is_there_after g c v writes both (numbered n form m) ≡ true → not (is_dirty g c w (numbered n form m)) ≡ (not (is_dirty g c v (numbered n form m)) && not (over (numbered n form m)))
+  at_node : (form : Form) (m : ℕ) → is_there_after g c v writes both (numbered n form m) ≡ true
+      → not (is_dirty g c w (numbered n form m)) ≡ (not (is_dirty g c v (numbered n form m)) && not (over (numbered n form m)))
   at_node form m there =
       ap not (cut.dirty form m (left_at form m there)) ∙ negated (is_dirty g c v (numbered n form m)) (is_split g i indices form m) (over (numbered n form m))
       (sym (touched_split g c v n i indices shape form m) ∙ (λ t. over (numbered n form m) && alone_there form m there t) ∙ only (over (numbered n form m)))
@@ -209,7 +224,8 @@ module _ (g : Request) (c v w : View) (n i : ℕ) (indices : List ℕ) (shape : 
       negated true s a e = refl
       negated false s a e = ap not e
 
-  still_fresh : (p : Position) → touches g c w writes removes p ≡ true → is_there_after g c v writes both p ≡ true → not (is_dirty g c w p) ≡ (not (is_dirty g c v p) && not (over p))
+  still_fresh : (p : Position) → touches g c w writes removes p ≡ true → is_there_after g c v writes both p ≡ true
+      → not (is_dirty g c w p) ≡ (not (is_dirty g c v p) && not (over p))
   still_fresh p named there = elim (cases_eq p.number n) [
     | inl here ↦ subst (λ (k : ℕ). is_there_after g c v writes both (numbered k p.form p.index) ≡ true
         → not (is_dirty g c w (numbered k p.form p.index)) ≡ (not (is_dirty g c v (numbered k p.form p.index)) && not (over (numbered k p.form p.index)))) (sym here) (at_node p.form p.index) there

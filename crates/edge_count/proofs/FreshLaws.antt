@@ -87,7 +87,8 @@ module _ (g : Request) (c v : View) (writes removes : List Position) where
   pub there_is : (p : Position) → is_there_after g c v writes removes p ≡ list_any (under p) (range_with_len 0 (max_blocks_of g))
   there_is p =
       has-positions_of g p.number (filter (has_after g c v writes removes p.number) (range_with_len 0 (max_blocks_of g))) p
-      ∙ (λ t. eq-eqb p.number p.number refl t && any-filter (has_after g c v writes removes p.number) (is_on_chain g p.form p.index) (range_with_len 0 (max_blocks_of g)) t)
+      ∙ (λ t.
+      eq-eqb p.number p.number refl t && any-filter (has_after g c v writes removes p.number) (is_on_chain g p.form p.index) (range_with_len 0 (max_blocks_of g)) t)
 
   pub there_by : (p : Position) → is_there_after g c v writes removes p ≡ true
       → (x : ℕ) × (x < max_blocks_of g) × (has_after g c v writes removes p.number x ≡ true) × (is_on_chain g p.form p.index x ≡ true)
@@ -97,7 +98,8 @@ module _ (g : Request) (c v : View) (writes removes : List Position) where
       let parts = and_parts (has_after g c v writes removes p.number r.0) (is_on_chain g p.form p.index r.0) r.3 in
       (r.0, (let low : r.0 < max_blocks_of g = omega arith in low), parts.0, parts.1)
 
-  pub there_from : (p : Position) (x : ℕ) → x < max_blocks_of g → has_after g c v writes removes p.number x ≡ true → is_on_chain g p.form p.index x ≡ true → is_there_after g c v writes removes p ≡ true
+  pub there_from : (p : Position) (x : ℕ) → x < max_blocks_of g → has_after g c v writes removes p.number x ≡ true → is_on_chain g p.form p.index x ≡ true
+      → is_there_after g c v writes removes p ≡ true
   there_from p x low after on = there_is p ∙ range_some (under p) 0 (max_blocks_of g) x (omega arith) (omega arith) (λ t. after t && on t)
 
   -- the positions that are there have numbers that a node may have
@@ -110,7 +112,8 @@ module _ (g : Request) (c v : View) (writes removes : List Position) where
       (r.0, r.1, ancestor_number g r.0.number r.0.form r.0.index p r.2)
 
   -- what is touched is of the node of a position that is named
-  pub touches_by : (P : ℕ → Type 0) → ((q : Position) → has writes q ≡ true → P q.number) → ((q : Position) → has removes q ≡ true → P q.number) → (p : Position) → touches p ≡ true → P p.number
+  pub touches_by : (P : ℕ → Type 0) → ((q : Position) → has writes q ≡ true → P q.number) → ((q : Position) → has removes q ≡ true → P q.number)
+      → (p : Position) → touches p ≡ true → P p.number
   touches_by P in_writes in_removes p h = elim (or_cases (has writes p) (above removes p || above writes p) (sym (touches_is p) ∙ h)) [
     | inl here ↦ in_writes p here
     | inr over ↦ elim (or_cases (above removes p) (above writes p) over) [
@@ -142,7 +145,8 @@ module _ (g : Request) (c v w : View) (writes removes rest_writes rest_removes m
   no_third true false n e = refl
   no_third true true n e = e
 
-  sum : (a t tv tw nv nw : Bool) → (t ≡ true → tv ≡ tw) → (t ≡ true → tv ≡ true → nw ≡ (nv && not a)) → ((a || t) && (tv && nv)) ≡ ((a && (tv && nv)) || (t && (tw && nw)))
+  sum : (a t tv tw nv nw : Bool) → (t ≡ true → tv ≡ tw) → (t ≡ true → tv ≡ true → nw ≡ (nv && not a))
+      → ((a || t) && (tv && nv)) ≡ ((a && (tv && nv)) || (t && (tw && nw)))
   sum false false tv tw nv nw th fr = refl
   sum false true false tw nv nw th fr = λ i. th refl i && nw
   sum false true true tw true nw th fr = sym (fr refl refl) ∙ (λ i. th refl i && nw)
@@ -174,6 +178,7 @@ module _ (g : Request) (c v w : View) (writes removes rest_writes rest_removes m
       count_of-from_has (fresh_positions g c v writes removes) (made ++ rest) (λ p.
       has-filter before (touched g (λ q. false) writes removes) p
       ∙ ap (λ t. t && before p) (touched_is p)
-      ∙ sum (part p) (touches g c w rest_writes rest_removes p) (is_there_after g c v writes removes p) (is_there_after g c w rest_writes rest_removes p) (not (is_dirty g c v p)) (not (is_dirty g c w p)) (there p) (fresh p)
+      ∙ sum (part p) (touches g c w rest_writes rest_removes p) (is_there_after g c v writes removes p) (is_there_after g c w rest_writes rest_removes p)
+      (not (is_dirty g c v p)) (not (is_dirty g c w p)) (there p) (fresh p)
       ∙ sym (has-append made rest p ∙ (λ t. made_is p t || has-filter after (touched g (λ q. false) rest_writes rest_removes) p t)))
       ∙ count_of-append_apart made rest apart

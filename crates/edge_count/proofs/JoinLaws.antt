@@ -63,18 +63,21 @@ module _ (g : Request) (c v : View) (n i : ℕ) (low : i < max_blocks_of g) (wri
       subst (λ (m : ℕ). m ≤ count_of (fresh_positions g c v (data_at n i ∷ writes) removes)) (sym (chain_count g c v n i))
       (count_of-le_from_has (filter (λ q. not (is_dirty g c v q)) (chain g n i)) (fresh_positions g c v (data_at n i ∷ writes) removes) (λ p h.
       let parts = and_parts (has (chain g n i) p) (not (is_dirty g c v p)) (sym (has-filter (λ q. not (is_dirty g c v q)) (chain g n i) p) ∙ h) in
-      has-filter (λ q. is_there_after g c v (data_at n i ∷ writes) removes q && not (is_dirty g c v q)) (touched g (λ q. false) (data_at n i ∷ writes) removes) p
+      has-filter (λ q. is_there_after g c v (data_at n i ∷ writes) removes q && not (is_dirty g c v q))
+      (touched g (λ q. false) (data_at n i ∷ writes) removes) p
       ∙ and_from _ _ (chain_touched g c v n i low writes removes stays p ∙ or_left (has (chain g n i) p) (touches g c v writes removes p) parts.0)
       (and_from _ _ (chain_there g c v n i low writes removes stays p parts.0) parts.1)))
 
-pub write_rest : (g : Request) (c v w : View) (n i reserve : ℕ) (indices : List ℕ) (writes removes : List Position) → HasShape g v n indices → IsView g w → i < max_blocks_of g → IsMadeWritable g c v w n i indices
+pub write_rest : (g : Request) (c v w : View) (n i reserve : ℕ) (indices : List ℕ) (writes removes : List Position) → HasShape g v n indices → IsView g w
+    → i < max_blocks_of g → IsMadeWritable g c v w n i indices
     → AreOfOrKept g v w n writes → AreOfOrKept g v w n removes → has removes (data_at n i) ≡ false
     → fresh_count g c v (data_at n i ∷ writes) removes + reserve ≤ free_now g c v → fresh_count g c w writes removes + reserve ≤ free_now g c w
 write_rest g c v w n i reserve indices writes removes shape view low made of_writes of_removes stays fits =
     let step = write_step g c v w n i indices shape view low made writes removes of_writes of_removes stays in
     let free = made.free in omega arith
 
-pub cut_rest : (g : Request) (c v w : View) (n i reserve : ℕ) (indices : List ℕ) (writes removes : List Position) → HasShape g v n indices → IsCut g c v w n i indices
+pub cut_rest : (g : Request) (c v w : View) (n i reserve : ℕ) (indices : List ℕ) (writes removes : List Position) → HasShape g v n indices
+    → IsCut g c v w n i indices
     → AreOfOrKept g v w n writes → AreAmong n (before i indices) writes → AreKept g v w removes → AreElsewhere n removes
     → fresh_count g c v writes (removed n i indices ++ removes) + reserve ≤ free_now g c v → fresh_count g c w writes removes + reserve ≤ free_now g c w
 cut_rest g c v w n i reserve indices writes removes shape cut of_writes among of_removes elsewhere fits =
@@ -95,7 +98,8 @@ any_same test ps qs same = both_ways (list_any test ps) (list_any test qs)
     (λ h. let f = position_found test ps h in any_has test qs f.0 (sym (same f.0) ∙ f.1) f.2)
     (λ h. let f = position_found test qs h in any_has test ps f.0 (same f.0 ∙ f.1) f.2)
 
-pub same_named : (g : Request) (c v : View) (ws xs rs ss : List Position) → ((p : Position) → has ws p ≡ has xs p) → ((p : Position) → has rs p ≡ has ss p) → fresh_count g c v ws rs ≡ fresh_count g c v xs ss
+pub same_named : (g : Request) (c v : View) (ws xs rs ss : List Position) → ((p : Position) → has ws p ≡ has xs p) → ((p : Position) → has rs p ≡ has ss p)
+    → fresh_count g c v ws rs ≡ fresh_count g c v xs ss
 unfolding fresh_count
 same_named g c v ws xs rs ss same_w same_r =
     count_of-from_has (fresh_positions g c v ws rs) (fresh_positions g c v xs ss) (λ p.
@@ -104,11 +108,16 @@ same_named g c v ws xs rs ss same_w same_r =
     ∙ sym (has-filter (λ q. is_there_after g c v xs ss q && not (is_dirty g c v q)) (touched g (λ q. false) xs ss) p))
   where
     touch : (p : Position) → touches g c v ws rs p ≡ touches g c v xs ss p
-    touch p = touches_is g c v ws rs p ∙ (λ t. same_w p t || (any_same (λ q. has (ancestors g q) p) rs ss same_r t || any_same (λ q. has (ancestors g q) p) ws xs same_w t)) ∙ sym (touches_is g c v xs ss p)
+    touch p =
+        touches_is g c v ws rs p
+        ∙ (λ t. same_w p t || (any_same (λ q. has (ancestors g q) p) rs ss same_r t || any_same (λ q. has (ancestors g q) p) ws xs same_w t))
+        ∙ sym (touches_is g c v xs ss p)
 
     there : (p : Position) → is_there_after g c v ws rs p ≡ is_there_after g c v xs ss p
     there p = there_is g c v ws rs p
-        ∙ range_same (under g c v ws rs p) (under g c v xs ss p) 0 (max_blocks_of g) (λ x below t. (same_w (data_at p.number x) t || (not (data_block g v p.number x == 0) && not (same_r (data_at p.number x) t))) && is_on_chain g p.form p.index x)
+        ∙ range_same (under g c v ws rs p) (under g c v xs ss p) 0 (max_blocks_of g)
+        (λ x below t.
+        (same_w (data_at p.number x) t || (not (data_block g v p.number x == 0) && not (same_r (data_at p.number x) t))) && is_on_chain g p.form p.index x)
         ∙ sym (there_is g c v xs ss p)
 
 -- ---- where all that is named keeps its blocks
@@ -124,12 +133,15 @@ module _ (g : Request) (c v w : View) (writes removes : List Position) (of_write
       ∙ range_same (under g c v writes removes p) (under g c w writes removes p) 0 (max_blocks_of g) (λ x below.
       let high : x < 0 + max_blocks_of g = below in
       let low : x < max_blocks_of g = omega arith in
-      λ t. (has writes (data_at p.number x) || (not (sym (kept.places Plain x low) t == 0) && not (has removes (data_at p.number x)))) && is_on_chain g p.form p.index x)
+      λ t.
+      (has writes (data_at p.number x) || (not (sym (kept.places Plain x low) t == 0) && not (has removes (data_at p.number x)))) && is_on_chain g p.form p.index x)
       ∙ sym (there_is g c w writes removes p)
 
   pub kept_count : fresh_count g c w writes removes ≡ fresh_count g c v writes removes
   kept_count = sym (step_count g c v w writes removes writes removes [] (λ p. false) (λ p. refl) (λ p. refl) kept_there
-      (λ p named there. ap not (kept_dirty g c v w p (touches_by g c w writes removes Kept of_writes of_removes p named) (there_low g c v writes removes p there)) ∙ all (not (is_dirty g c v p)))
+      (λ p named there.
+      ap not (kept_dirty g c v w p (touches_by g c w writes removes Kept of_writes of_removes p named) (there_low g c v writes removes p there))
+      ∙ all (not (is_dirty g c v p)))
       ∙ zero_first (fresh_count g c w writes removes))
     where
       all : (t : Bool) → t ≡ (t && true)
@@ -162,7 +174,8 @@ module _ (g : Request) (c v : View) (n : ℕ) (indices : List ℕ) (shape : HasS
     -- none of the node's data blocks is there afterwards
     none_left : (x : ℕ) → has_after g c v writes every n x ≡ false
     none_left x =
-        (λ t. is_false (has writes (data_at n x)) (λ h. away_writes (data_at n x) h refl) t || (not (absent_is g v n indices shape x t) && not (has-append gone removes (data_at n x) t)))
+        (λ t.
+        is_false (has writes (data_at n x)) (λ h. away_writes (data_at n x) h refl) t || (not (absent_is g v n indices shape x t) && not (has-append gone removes (data_at n x) t)))
         ∙ (λ t. not (not (list_any (λ k. k == x) indices)) && not (removed_is n 0 indices x t || has removes (data_at n x)))
         ∙ none (list_any (λ k. k == x) indices) (nat_le 0 x) (has removes (data_at n x)) (le-leb 0 x (zero_le x))
       where
@@ -208,7 +221,8 @@ module _ (g : Request) (c v : View) (n : ℕ) (indices : List ℕ) (shape : HasS
           | inr off ↦ sym (ap (λ t. t && (is_there_after g c v writes every p && not (is_dirty g c v p))) off)
         ])
         over_touches same_there
-        (λ p named there. all_left (not (is_dirty g c v p)) (over p) (is_false (over p) (λ h. other_number p named (touched_number g c v n 0 indices shape p h))))
+        (λ p named there.
+        all_left (not (is_dirty g c v p)) (over p) (is_false (over p) (λ h. other_number p named (touched_number g c v n 0 indices shape p h))))
         ∙ zero_first (fresh_count g c v writes removes)
       where
         no_more : (a t f : Bool) → t ≡ false → (a && (t && f)) ≡ false
@@ -254,7 +268,8 @@ module _ (g : Request) (c v : View) (n m k i : ℕ) (indices : List ℕ) (shape 
   write_and_cut_apart =
       step_count g c v v (data_at n k ∷ []) cut_away [] cut_away (filter (λ q. not (is_dirty g c v q)) (chain g n k)) (has (chain g n k))
       (chain_fresh g c v n k low [] cut_away stays_away) (chain_touched g c v n k low [] cut_away stays_away) there_away
-      (λ p named there. all_left (not (is_dirty g c v p)) (has (chain g n k) p) (is_false (has (chain g n k) p) (λ h. cut_number p named (chain_number g n k p h))))
+      (λ p named there.
+      all_left (not (is_dirty g c v p)) (has (chain g n k) p) (is_false (has (chain g n k) p) (λ h. cut_number p named (chain_number g n k p h))))
       ∙ (λ t. sym (chain_count g c v n k) t + fresh_cut g c v m i indices shape t)
     where
       all_left : (f a : Bool) → a ≡ false → f ≡ (f && not a)
@@ -276,18 +291,26 @@ module _ (g : Request) (c v : View) (n k i : ℕ) (indices : List ℕ) (shape : 
   shared = filter (λ p. is_split g i indices p.form p.index && not (is_dirty g c v p)) (chain g n k)
 
   stays_here : has cut_here (data_at n k) ≡ false
-  stays_here = removed_is n i indices k ∙ is_false (list_any (λ x. x == k) indices && nat_le i k) (λ h. let high = leb-true i k (and_parts (list_any (λ x. x == k) indices) (nat_le i k) h).1 in absurd (omega arith))
+  stays_here =
+      removed_is n i indices k
+      ∙ is_false (list_any (λ x. x == k) indices && nat_le i k)
+      (λ h. let high = leb-true i k (and_parts (list_any (λ x. x == k) indices) (nat_le i k) h).1 in absurd (omega arith))
 
   -- off the chain the write changes nothing
-  off_there : (p : Position) → has (chain g n k) p ≡ false → touches g c v [] cut_here p ≡ true → is_there_after g c v (data_at n k ∷ []) cut_here p ≡ is_there_after g c v [] cut_here p
+  off_there : (p : Position) → has (chain g n k) p ≡ false → touches g c v [] cut_here p ≡ true
+      → is_there_after g c v (data_at n k ∷ []) cut_here p ≡ is_there_after g c v [] cut_here p
   off_there p off named =
       let number = touched_number g c v n i indices shape p named in
       there_is g c v (data_at n k ∷ []) cut_here p
       ∙ range_same (under g c v (data_at n k ∷ []) cut_here p) (under g c v [] cut_here p) 0 (max_blocks_of g) (λ x below. elim (cases_eq x k) [
         | inl is ↦
-            let no : is_on_chain g p.form p.index x ≡ false = ap (is_on_chain g p.form p.index) is ∙ sym (ap (λ t. t && is_on_chain g p.form p.index k) (eq-eqb p.number n number)) ∙ sym (one_chain g n k p) ∙ off in
-            none_on (has_after g c v (data_at n k ∷ []) cut_here p.number x) (is_on_chain g p.form p.index x) no ∙ sym (none_on (has_after g c v [] cut_here p.number x) (is_on_chain g p.form p.index x) no)
-        | inr other ↦ ap (λ t. ((t || false) || (not (data_block g v p.number x == 0) && not (has cut_here (data_at p.number x)))) && is_on_chain g p.form p.index x)
+            let no : is_on_chain g p.form p.index x ≡ false =
+            ap (is_on_chain g p.form p.index) is ∙ sym (ap (λ t. t && is_on_chain g p.form p.index k) (eq-eqb p.number n number)) ∙ sym (one_chain g n k p)
+            ∙ off in
+            none_on (has_after g c v (data_at n k ∷ []) cut_here p.number x) (is_on_chain g p.form p.index x) no
+            ∙ sym (none_on (has_after g c v [] cut_here p.number x) (is_on_chain g p.form p.index x) no)
+        | inr other ↦
+            ap (λ t. ((t || false) || (not (data_block g v p.number x == 0) && not (has cut_here (data_at p.number x)))) && is_on_chain g p.form p.index x)
             (is_false (same_position (data_at p.number x) (data_at n k)) (λ h. other (ap (λ (r : Position). r.index) ((same_position_Decides (data_at p.number x) (data_at n k)).0 h))))
       ])
       ∙ sym (there_is g c v [] cut_here p)
@@ -301,7 +324,8 @@ module _ (g : Request) (c v : View) (n k i : ℕ) (indices : List ℕ) (shape : 
   all_is = count_of-from_has (fresh_positions g c v (data_at n k ∷ []) cut_here) (on_chain ++ on_cut) (λ p.
       has-filter (λ q. is_there_after g c v (data_at n k ∷ []) cut_here q && not (is_dirty g c v q)) (touched g (λ q. false) (data_at n k ∷ []) cut_here) p
       ∙ ap (λ t. t && (is_there_after g c v (data_at n k ∷ []) cut_here p && not (is_dirty g c v p))) (chain_touched g c v n k low [] cut_here stays_here p)
-      ∙ by (has (chain g n k) p) (touches g c v [] cut_here p) (is_there_after g c v (data_at n k ∷ []) cut_here p) (is_there_after g c v [] cut_here p) (not (is_dirty g c v p))
+      ∙ by (has (chain g n k) p) (touches g c v [] cut_here p) (is_there_after g c v (data_at n k ∷ []) cut_here p) (is_there_after g c v [] cut_here p)
+      (not (is_dirty g c v p))
       (chain_there g c v n k low [] cut_here stays_here p) (off_there p)
       ∙ sym (has-append on_chain on_cut p ∙ (λ t. has-filter (λ q. not (is_dirty g c v q)) (chain g n k) p t || has-filter (λ q. is_there_after g c v [] cut_here q && not (is_dirty g c v q)) (touched g (λ q. false) [] cut_here) p t)))
     where
@@ -317,12 +341,19 @@ module _ (g : Request) (c v : View) (n k i : ℕ) (indices : List ℕ) (shape : 
   both_named : count_of (filter (λ p. has on_cut p) on_chain) ≡ count_of shared
   both_named = count_of-from_has (filter (λ p. has on_cut p) on_chain) shared (λ p.
       has-filter (λ q. has on_cut q) on_chain p
-      ∙ (λ t. has-filter (λ q. not (is_dirty g c v q)) (chain g n k) p t && has-filter (λ q. is_there_after g c v [] cut_here q && not (is_dirty g c v q)) (touched g (λ q. false) [] cut_here) p t)
-      ∙ by (has (chain g n k) p) (touches g c v [] cut_here p) (is_there_after g c v [] cut_here p) (is_split g i indices p.form p.index) (not (is_dirty g c v p)) (split_at p)
+      ∙ (λ t.
+      has-filter (λ q. not (is_dirty g c v q)) (chain g n k) p t && has-filter (λ q. is_there_after g c v [] cut_here q && not (is_dirty g c v q)) (touched g (λ q. false) [] cut_here) p t)
+      ∙ by (has (chain g n k) p) (touches g c v [] cut_here p) (is_there_after g c v [] cut_here p) (is_split g i indices p.form p.index)
+      (not (is_dirty g c v p)) (split_at p)
       ∙ sym (has-filter (λ q. is_split g i indices q.form q.index && not (is_dirty g c v q)) (chain g n k) p))
     where
-      split_at : (p : Position) → has (chain g n k) p ≡ true → (touches g c v [] cut_here p && is_there_after g c v [] cut_here p) ≡ is_split g i indices p.form p.index
-      split_at p on = subst (λ (m : ℕ). (touches g c v [] cut_here (numbered m p.form p.index) && is_there_after g c v [] cut_here (numbered m p.form p.index)) ≡ is_split g i indices p.form p.index)
+      split_at : (p : Position) → has (chain g n k) p ≡ true
+          → (touches g c v [] cut_here p && is_there_after g c v [] cut_here p) ≡ is_split g i indices p.form p.index
+      split_at p on =
+          subst
+          (λ (m : ℕ).
+          (touches g c v [] cut_here (numbered m p.form p.index) && is_there_after g c v [] cut_here (numbered m p.form p.index))
+          ≡ is_split g i indices p.form p.index)
           (sym (chain_number g n k p on)) (touched_split g c v n i indices shape p.form p.index)
 
       by : (a t t0 s f : Bool) → (a ≡ true → (t && t0) ≡ s) → ((a && f) && (t && (t0 && f))) ≡ (a && (s && f))

@@ -36,19 +36,24 @@ module _ (g : Request) (c v : View) (n i : ℕ) (low : i < max_blocks_of g) (wri
   chain_there p h =
       let parts = and_parts (p.number == n) (is_on_chain g p.form p.index i) (sym (one_chain g n i p) ∙ h) in
       let same : p.number ≡ n = eqb-true p.number n parts.0 in
-      there_from g c v all removes p i low (or_left (has all (data_at p.number i)) _ (subst (λ (m : ℕ). has all (data_at m i) ≡ true) (sym same) (or_left (same_position (data_at n i) (data_at n i)) (has writes (data_at n i)) (same_position_equiv.refl (data_at n i))))) parts.1
+      there_from g c v all removes p i low
+      (or_left (has all (data_at p.number i)) _ (subst (λ (m : ℕ). has all (data_at m i) ≡ true) (sym same) (or_left (same_position (data_at n i) (data_at n i)) (has writes (data_at n i)) (same_position_equiv.refl (data_at n i))))) parts.1
 
   pub chain_touched : (p : Position) → touches g c v all removes p ≡ (has (chain g n i) p || touches g c v writes removes p)
   chain_touched p =
       touches_is g c v all removes p
-      ∙ order (same_position p (data_at n i)) (has writes p) (above g c v writes removes removes p) (has (above_data g n i) p) (above g c v writes removes writes p)
+      ∙ order (same_position p (data_at n i)) (has writes p) (above g c v writes removes removes p) (has (above_data g n i) p)
+      (above g c v writes removes writes p)
       ∙ sym (ap (λ t. has (chain g n i) p || t) (touches_is g c v writes removes p))
     where
       order : (s x r u y : Bool) → ((s || x) || (r || (u || y))) ≡ ((s || u) || (x || (r || y)))
       order s x r u y = grind (arith, nat_tests)
 
-  pub chain_fresh : (p : Position) → has (filter (λ q. not (is_dirty g c v q)) (chain g n i)) p ≡ (has (chain g n i) p && (is_there_after g c v all removes p && not (is_dirty g c v p)))
-  chain_fresh p = has-filter (λ q. not (is_dirty g c v q)) (chain g n i) p ∙ with_there (has (chain g n i) p) (is_there_after g c v all removes p) (not (is_dirty g c v p)) (chain_there p)
+  pub chain_fresh : (p : Position)
+      → has (filter (λ q. not (is_dirty g c v q)) (chain g n i)) p ≡ (has (chain g n i) p && (is_there_after g c v all removes p && not (is_dirty g c v p)))
+  chain_fresh p =
+      has-filter (λ q. not (is_dirty g c v q)) (chain g n i) p
+      ∙ with_there (has (chain g n i) p) (is_there_after g c v all removes p) (not (is_dirty g c v p)) (chain_there p)
     where
       with_there : (a t f : Bool) → (a ≡ true → t ≡ true) → (a && f) ≡ (a && (t && f))
       with_there false t f h = refl
@@ -56,8 +61,10 @@ module _ (g : Request) (c v : View) (n i : ℕ) (low : i < max_blocks_of g) (wri
 
 -- ---- the step
 
-module _ (g : Request) (c v w : View) (n i : ℕ) (indices : List ℕ) (shape : HasShape g v n indices) (view : IsView g w) (low : i < max_blocks_of g) (made : IsMadeWritable g c v w n i indices)
-    (writes removes : List Position) (of_writes : AreOfOrKept g v w n writes) (of_removes : AreOfOrKept g v w n removes) (stays : has removes (data_at n i) ≡ false) where
+module _ (g : Request) (c v w : View) (n i : ℕ) (indices : List ℕ) (shape : HasShape g v n indices) (view : IsView g w) (low : i < max_blocks_of g)
+    (made : IsMadeWritable g c v w n i indices)
+    (writes removes : List Position) (of_writes : AreOfOrKept g v w n writes) (of_removes : AreOfOrKept g v w n removes)
+    (stays : has removes (data_at n i) ≡ false) where
   abbrev first : List Position
   first = data_at n i ∷ writes
 
@@ -79,7 +86,8 @@ module _ (g : Request) (c v w : View) (n i : ℕ) (indices : List ℕ) (shape : 
   same_at x = elim (cases_eq x i) [
     | inl is ↦
         ap (has_after g c v first removes n) is
-        ∙ or_left (has first (data_at n i)) _ (or_left (same_position (data_at n i) (data_at n i)) (has writes (data_at n i)) (same_position_equiv.refl (data_at n i)))
+        ∙ or_left (has first (data_at n i)) _
+        (or_left (same_position (data_at n i) (data_at n i)) (has writes (data_at n i)) (same_position_equiv.refl (data_at n i)))
         ∙ sym (ap (has_after g c w writes removes n) is ∙ written)
     | inr away ↦ λ t. (other away t || has writes (data_at n x)) || (not (absent away t) && not (has removes (data_at n x)))
   ]
@@ -88,7 +96,10 @@ module _ (g : Request) (c v w : View) (n i : ℕ) (indices : List ℕ) (shape : 
       other away = is_false _ (λ h. away (ap (λ (r : Position). r.index) ((same_position_Decides (data_at n x) (data_at n i)).0 h)))
 
       absent : x ≢ i → (data_block g v n x == 0) ≡ (data_block g w n x == 0)
-      absent away = absent_is g v n indices shape x ∙ sym (absent_is g w n (i ∷ indices) shape_w x ∙ ap (λ t. not (t || list_any (λ k. k == x) indices)) (is_false (i == x) (λ h. away (sym (eqb-true i x h)))))
+      absent away =
+          absent_is g v n indices shape x
+          ∙ sym
+          (absent_is g w n (i ∷ indices) shape_w x ∙ ap (λ t. not (t || list_any (λ k. k == x) indices)) (is_false (i == x) (λ h. away (sym (eqb-true i x h)))))
 
   same_here : (m x : ℕ) → m ≡ n → has_after g c v first removes m x ≡ has_after g c w writes removes m x
   same_here m x here = ap (λ (k : ℕ). has_after g c v first removes k x) here ∙ same_at x ∙ ap (λ (k : ℕ). has_after g c w writes removes k x) (sym here)
@@ -98,7 +109,8 @@ module _ (g : Request) (c v w : View) (n i : ℕ) (indices : List ℕ) (shape : 
   same_after m x (inr kept) low_x = elim (cases_eq m n) [
     | inl here ↦ same_here m x here
     | inr away ↦
-        let off : same_position (data_at m x) (data_at n i) ≡ false = is_false _ (λ h. away (ap (λ (r : Position). r.number) ((same_position_Decides (data_at m x) (data_at n i)).0 h))) in
+        let off : same_position (data_at m x) (data_at n i) ≡ false =
+        is_false _ (λ h. away (ap (λ (r : Position). r.number) ((same_position_Decides (data_at m x) (data_at n i)).0 h))) in
         λ t. (off t || has writes (data_at m x)) || (not (sym (kept.places Plain x low_x) t == 0) && not (has removes (data_at m x)))
   ]
 
@@ -110,11 +122,14 @@ module _ (g : Request) (c v w : View) (n i : ℕ) (indices : List ℕ) (shape : 
   same_there : (p : Position) → touches g c w writes removes p ≡ true → is_there_after g c v first removes p ≡ is_there_after g c w writes removes p
   same_there p h =
       there_is g c v first removes p
-      ∙ range_same (under g c v first removes p) (under g c w writes removes p) 0 (max_blocks_of g) (λ x below. ap (λ t. t && is_on_chain g p.form p.index x) (same_after p.number x (of_node p h) (let high : x < 0 + max_blocks_of g = below in let e : x < max_blocks_of g = omega arith in e)))
+      ∙ range_same (under g c v first removes p) (under g c w writes removes p) 0 (max_blocks_of g)
+      (λ x below.
+      ap (λ t. t && is_on_chain g p.form p.index x) (same_after p.number x (of_node p h) (let high : x < 0 + max_blocks_of g = below in let e : x < max_blocks_of g = omega arith in e)))
       ∙ sym (there_is g c w writes removes p)
 
   -- off the chain what is dirty of the node stays dirty, and no more
-  off_chain : (form : Form) (k : ℕ) → k < positions_of_form g form → has (chain g n i) (numbered n form k) ≡ false → is_dirty g c w (numbered n form k) ≡ is_dirty g c v (numbered n form k)
+  off_chain : (form : Form) (k : ℕ) → k < positions_of_form g form → has (chain g n i) (numbered n form k) ≡ false
+      → is_dirty g c w (numbered n form k) ≡ is_dirty g c v (numbered n form k)
   off_chain form k low_k off = elim (cases_Bool (has (positions_of g n indices) (numbered n form k))) [
     | inl listed ↦
         ap (is_new c w) (made.stays (numbered n form k) listed off)
@@ -134,10 +149,13 @@ module _ (g : Request) (c v w : View) (n i : ℕ) (indices : List ℕ) (shape : 
       zero_w : has (positions_of g n indices) (numbered n form k) ≡ false → block_at g w (numbered n form k) ≡ 0
       zero_w none = elim (cases_eq (block_at g w (numbered n form k)) 0) [
         | inl zero ↦ zero
-        | inr there ↦ absurd (let e : true ≡ false = sym ((made.places.places (numbered n form k) (λ t. n) low_k).0 there) ∙ has-append (chain g n i) (positions_of g n indices) (numbered n form k) ∙ (λ t. off t || none t) in cc)
+        | inr there ↦
+            absurd
+            (let e : true ≡ false = sym ((made.places.places (numbered n form k) (λ t. n) low_k).0 there) ∙ has-append (chain g n i) (positions_of g n indices) (numbered n form k) ∙ (λ t. off t || none t) in cc)
       ]
 
-  still_fresh : (p : Position) → touches g c w writes removes p ≡ true → is_there_after g c v first removes p ≡ true → not (is_dirty g c w p) ≡ (not (is_dirty g c v p) && not (has (chain g n i) p))
+  still_fresh : (p : Position) → touches g c w writes removes p ≡ true → is_there_after g c v first removes p ≡ true
+      → not (is_dirty g c w p) ≡ (not (is_dirty g c v p) && not (has (chain g n i) p))
   still_fresh p h there = elim (cases_Bool (has (chain g n i) p)) [
     | inl on ↦ ap not (made.dirty p on) ∙ sym (none_left (not (is_dirty g c v p)) (has (chain g n i) p) on)
     | inr off ↦ ap not (same off) ∙ sym (all_left (not (is_dirty g c v p)) (has (chain g n i) p) off)
@@ -157,7 +175,11 @@ module _ (g : Request) (c v w : View) (n i : ℕ) (indices : List ℕ) (shape : 
       same : has (chain g n i) p ≡ false → is_dirty g c w p ≡ is_dirty g c v p
       same off = elim (of_node p h) [
         | inr kept ↦ kept_dirty g c v w p kept low_p
-        | inl here ↦ subst (λ (m : ℕ). has (chain g n i) (numbered m p.form p.index) ≡ false → is_dirty g c w (numbered m p.form p.index) ≡ is_dirty g c v (numbered m p.form p.index)) (sym here) (off_chain p.form p.index low_p) off
+        | inl here ↦
+            subst
+            (λ (m : ℕ).
+            has (chain g n i) (numbered m p.form p.index) ≡ false → is_dirty g c w (numbered m p.form p.index) ≡ is_dirty g c v (numbered m p.form p.index))
+            (sym here) (off_chain p.form p.index low_p) off
       ]
 
   -- The count of the change is that of the chain, and that of the rest afterwards.

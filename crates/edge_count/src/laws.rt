@@ -1,14 +1,17 @@
 //! Laws over the definitions of `specs/`: functions without effects.
 
-ghost use Rattle.std.specs.Prelude.{◌≡◌, ◌≢◌, ◌<◌, ◌≤◌, ℕ, ◌+◌, ◌-◌, ◌&&◌, not, Bool, true, false, List, [], ◌∷◌, ◌++◌, map, filter, flat_map, count_by};
+ghost use Rattle.std.specs.Prelude.{◌≡◌, ◌≢◌, ◌<◌, ◌≤◌, ℕ, ◌+◌, ◌-◌, ◌&&◌, not, Bool, true, false, List, [], ◌∷◌, ◌++◌, map, filter, flat_map, count_by, Option};
 ghost use Rattle.std.specs.List.{range_with_len};
 ghost use Rattle.edge_base.specs.declared.form.Form.{Form};
 ghost use Rattle.edge_base.specs.declared.form.Form.TheVariants.{Plain, Indirect, Double};
 ghost use Rattle.edge_base.specs.declared.geometry.Request.{Request};
+ghost use Rattle.edge_base.specs.declared.node.Head.{Head};
 ghost use Rattle.edge_base.specs.layout.Places.{IsGeometry, max_blocks_of};
 ghost use Rattle.edge_base.specs.tree.Positions.{Position, data_at, ancestors, chain, positions_of, has, count_of};
+ghost use Rattle.edge_store.specs.Effects.{HeadSet, BytesSet};
+ghost use Rattle.edge_store.specs.Frames.{IsNoNodeOf};
 ghost use Rattle.edge_store.specs.Fresh.{is_dirty, fresh_count};
-ghost use Rattle.edge_store.specs.View.{View, IsView, free_now};
+ghost use Rattle.edge_store.specs.View.{View, Inode, IsView, free_now, with_inode};
 ghost use Rattle.edge_moves.specs.Sound.{numbered};
 ghost use Rattle.edge_moves.specs.Writable.{IsMadeWritable, fresh_on_chain};
 ghost use Rattle.edge_shape.specs.Cut.{is_split, IsCut};
@@ -187,4 +190,25 @@ pub fn a_step_keeps_other_nodes()
     ensures cut_shape { (g : Request) (c v w : View) (n m i : ℕ) (indices others : List ℕ)
         → HasShape g v m others → AreApart g v n m → m ≢ n
         → IsCut g c v w n i indices → HasShape g w m others }
+{}
+
+/// A step that sets no pointer of a node leaves it as it was: other bytes in a block that is none of
+/// its pointer nodes, another head, and another number's inode.
+pub fn a_step_that_sets_no_pointer_keeps_nodes()
+    ensures bytes { (g : Request) (v w : View) (m b at : ℕ) (list indices : List ℕ)
+        → HasShape g v m indices → IsView g w → IsNoNodeOf g v m b → BytesSet v w b at list
+        → KeepsBlocks g v w m }
+    ensures bytes_shape { (g : Request) (v w : View) (m b at : ℕ) (list indices : List ℕ)
+        → HasShape g v m indices → IsView g w → IsNoNodeOf g v m b → BytesSet v w b at list
+        → HasShape g w m indices }
+    ensures head { (g : Request) (v w : View) (m n : ℕ) (head : Head) (indices : List ℕ)
+        → HasShape g v m indices → IsView g w → HeadSet v w n head → KeepsBlocks g v w m }
+    ensures head_shape { (g : Request) (v w : View) (m n : ℕ) (head : Head) (indices : List ℕ)
+        → HasShape g v m indices → IsView g w → HeadSet v w n head → HasShape g w m indices }
+    ensures inode { (g : Request) (v w : View) (m n : ℕ) (inode : Option Inode)
+        (indices : List ℕ) → HasShape g v m indices → IsView g w → m ≢ n
+        → w ≡ with_inode v n inode → KeepsBlocks g v w m }
+    ensures inode_shape { (g : Request) (v w : View) (m n : ℕ) (inode : Option Inode)
+        (indices : List ℕ) → HasShape g v m indices → IsView g w → m ≢ n
+        → w ≡ with_inode v n inode → HasShape g w m indices }
 {}

@@ -39,6 +39,7 @@ pub shaped_by : (g : Request) (v : View) (n : ℕ) (indices : List ℕ) → HasS
 shaped_by g v n indices shape = by (v.inodes n) refl shape.inode
   where
     by : (o : Option Inode) → v.inodes n ≡ o → is_whole o ≡ true → (shaped : IsShaped g v n) × (shaped.indices ≡ indices)
-    by (Some (whole head entries)) is h = (record { head = head; entries = entries; inode = is; indices = indices; places = shape.places; once = shape.once }, refl)
+    by (Some (whole head entries)) is h =
+        (record { head = head; entries = entries; inode = is; indices = indices; places = shape.places; once = shape.once }, refl)
     by (Some (broken damage)) is h = absurd (let e : false ≡ true = h in cc)
     by None is h = absurd (let e : false ≡ true = h in cc)

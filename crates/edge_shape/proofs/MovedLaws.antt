@@ -29,7 +29,8 @@ use Rattle.edge_shape.proofs.ShapeLaws.{entry_there, in_range, listed, spot_at, 
 use Rattle.edge_shape.proofs.LeaveLaws.{position_there}
 
 -- Block b took the place of the block at number m of a form.
-module _ (g : Request) (c v w : View) (n : ℕ) (indices : List ℕ) (shape : HasShape g v n indices) (f : Form) (m b top : ℕ) (there : block_at g v (numbered n f m) ≢ 0) (step : StepOf g c v w n f m b top) where
+module _ (g : Request) (c v w : View) (n : ℕ) (indices : List ℕ) (shape : HasShape g v n indices) (f : Form) (m b top : ℕ)
+    (there : block_at g v (numbered n f m) ≢ 0) (step : StepOf g c v w n f m b top) where
   abbrev pub here : Form → ℕ → Bool
   here form l = same_position (numbered n form l) (numbered n f m)
 
@@ -40,10 +41,12 @@ module _ (g : Request) (c v w : View) (n : ℕ) (indices : List ℕ) (shape : Ha
   inode_w = whole_by_head (v.inodes n) (w.inodes n) step.head shape.inode
 
   in_range_w : (form : Form) (l : ℕ) → block_at g w (numbered n form l) ≢ 0 → l < positions_of_form g form
-  in_range_w form l some = there_in_range g w n (entries_fit g shape.geometry) (some_pointers_fit g shape.geometry) (entries_of_whole g w n step.view inode_w) form l some
+  in_range_w form l some =
+      there_in_range g w n (entries_fit g shape.geometry) (some_pointers_fit g shape.geometry) (entries_of_whole g w n step.view inode_w) form l some
 
   -- behind the numbers of a form there is no block
-  none_past : (u : View) (form : Form) (l : ℕ) → (block_at g u (numbered n form l) ≢ 0 → l < positions_of_form g form) → positions_of_form g form ≤ l → block_at g u (numbered n form l) ≡ 0
+  none_past : (u : View) (form : Form) (l : ℕ) → (block_at g u (numbered n form l) ≢ 0 → l < positions_of_form g form) → positions_of_form g form ≤ l
+      → block_at g u (numbered n form l) ≡ 0
   none_past u form l low past = elim (cases_eq (block_at g u (numbered n form l)) 0) [
     | inl none ↦ none
     | inr some ↦ let below = low some in absurd (omega arith)
@@ -69,7 +72,9 @@ module _ (g : Request) (c v w : View) (n : ℕ) (indices : List ℕ) (shape : Ha
       | inr off ↦ listed g v n indices shape form l (λ none. some (to_other form l off ∙ none))
     ];
     spots = λ form l h. step.sound form l (in_range_w form l (there_w form l h)) (there_w form l h);
-    apart = λ form other l k h other_h same. step.apart form other l k (in_range_w form l (there_w form l h)) (in_range_w other k (there_w other k other_h)) (there_w form l h) same;
+    apart =
+        λ form other l k h other_h same.
+        step.apart form other l k (in_range_w form l (there_w form l h)) (in_range_w other k (there_w other k other_h)) (there_w form l h) same;
   })
     where
       there_w : (form : Form) (l : ℕ) → has (positions_of g n indices) (numbered n form l) ≡ true → block_at g w (numbered n form l) ≢ 0
@@ -80,7 +85,8 @@ module _ (g : Request) (c v w : View) (n : ℕ) (indices : List ℕ) (shape : Ha
 
 -- ---- the block of an entry
 
-module _ (g : Request) (c v w : View) (n : ℕ) (indices : List ℕ) (shape : HasShape g v n indices) (view : IsView g w) (e b : ℕ) (some : entry_at v n e ≢ 0) where
+module _ (g : Request) (c v w : View) (n : ℕ) (indices : List ℕ) (shape : HasShape g v n indices) (view : IsView g w) (e b : ℕ)
+    (some : entry_at v n e ≢ 0) where
   low_e : e < entries_of g
   low_e = entry_there g v n indices shape e some
 
@@ -92,14 +98,17 @@ module _ (g : Request) (c v w : View) (n : ℕ) (indices : List ℕ) (shape : Ha
 
   module _ (was : EntryMoved g c v w n e b) where
     pub entry_step_of : StepOf g c v w n (form_of_entry g e) (number_of_entry g e) b 0
-    entry_step_of = entry_step g c v w n e b (entries_fit g shape.geometry) shape.view view (sound_of_places g v n indices shape.places) (apart_of_once g v n indices shape.places shape.once) shape.inode low_e was
+    entry_step_of =
+        entry_step g c v w n e b (entries_fit g shape.geometry) shape.view view (sound_of_places g v n indices shape.places)
+        (apart_of_once g v n indices shape.places shape.once) shape.inode low_e was
 
     pub entry_moved : HasShape g w n indices
     entry_moved = shape_moved g c v w n indices shape (form_of_entry g e) (number_of_entry g e) b 0 entry_is_there entry_step_of
 
 -- ---- the block in a place of a pointer node
 
-module _ (g : Request) (c v w : View) (n : ℕ) (indices : List ℕ) (shape : HasShape g v n indices) (view : IsView g w) (form : Form) (m place b : ℕ) (node : form ≢ Plain) (low : place < pointers_of g)
+module _ (g : Request) (c v w : View) (n : ℕ) (indices : List ℕ) (shape : HasShape g v n indices) (view : IsView g w) (form : Form) (m place b : ℕ)
+    (node : form ≢ Plain) (low : place < pointers_of g)
     (top_there : block_at g v (numbered n form m) ≢ 0) (some : pointer_at v form (block_at g v (numbered n form m)) place ≢ 0) where
   pub pointer_at_is : pointer_at v form (block_at g v (numbered n form m)) place ≡ block_at g v (numbered n (form_under form) (number_under g form m place))
   pointer_at_is = (self_relinks g v n).pointers form m place node (in_range g v n indices shape form m top_there) low
@@ -113,13 +122,17 @@ module _ (g : Request) (c v w : View) (n : ℕ) (indices : List ℕ) (shape : Ha
 
   -- a pointer node does not point to itself
   from_top : pointer_at v form (block_at g v (numbered n form m)) place ≢ block_at g v (numbered n form m)
-  from_top same = form_apart form node (ap (λ p. p.form) (one_place g v n indices shape form (form_under form) m (number_under g form m place) top_there (sym same ∙ pointer_at_is)))
+  from_top same =
+      form_apart form node
+      (ap (λ p. p.form) (one_place g v n indices shape form (form_under form) m (number_under g form m place) top_there (sym same ∙ pointer_at_is)))
 
   module _ (was : PointerMoved g c v w form n (block_at g v (numbered n form m)) place b) where
     pub pointer_step_of : StepOf g c v w n (form_under form) (number_under g form m place) b (block_at g v (numbered n form m))
     pointer_step_of = pointer_step g c v w n form m place (block_at g v (numbered n form m)) b (entries_fit g shape.geometry) shape.view view
-        (sound_of_places g v n indices shape.places) (apart_of_once g v n indices shape.places shape.once) node (in_range g v n indices shape form m top_there) low refl
+        (sound_of_places g v n indices shape.places) (apart_of_once g v n indices shape.places shape.once) node
+        (in_range g v n indices shape form m top_there) low refl
         (used_spot v form n (block_at g v (numbered n form m)) (spot_at g v n indices shape form m top_there)) from_top top_there was
 
     pub pointer_moved : HasShape g w n indices
-    pointer_moved = shape_moved g c v w n indices shape (form_under form) (number_under g form m place) b (block_at g v (numbered n form m)) under_is_there pointer_step_of
+    pointer_moved =
+        shape_moved g c v w n indices shape (form_under form) (number_under g form m place) b (block_at g v (numbered n form m)) under_is_there pointer_step_of

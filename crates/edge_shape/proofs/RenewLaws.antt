@@ -41,7 +41,8 @@ uncommitted c v b h = (parts_of_new (is_used v b) (is_used c b) h).1
 pub new_used : (c v : View) (b : ℕ) → is_new c v b ≡ true → is_used v b ≡ true
 new_used c v b h = (parts_of_new (is_used v b) (is_used c b) h).0
 
-pub node_used : (g : Request) (v : View) (n : ℕ) (indices : List ℕ) → HasShape g v n indices → (form : Form) (m : ℕ) → block_at g v (numbered n form m) ≢ 0 → is_used v (block_at g v (numbered n form m)) ≡ true
+pub node_used : (g : Request) (v : View) (n : ℕ) (indices : List ℕ) → HasShape g v n indices → (form : Form) (m : ℕ) → block_at g v (numbered n form m) ≢ 0
+    → is_used v (block_at g v (numbered n form m)) ≡ true
 node_used g v n indices shape form m there = used_spot v form n (block_at g v (numbered n form m)) (spot_at g v n indices shape form m there)
 
 -- what is used and not new, the last point has
@@ -68,11 +69,13 @@ pub record NodesMove (g : Request) (c v w : View) (n : ℕ) (indices : List ℕ)
   pub others : (b : ℕ) → is_used v b ≡ true → ((form : Form) (m : ℕ) → block_at g v (numbered n form m) ≢ 0 → block_at g v (numbered n form m) ≢ b)
       → w.blocks b ≡ v.blocks b
   -- what is newly used is one of the node's
-  pub taken : (b : ℕ) → v.blocks b ≡ None → is_used w b ≡ true → (form : Form) × (m : ℕ) × (block_at g v (numbered n form m) ≢ 0) × (block_at g w (numbered n form m) ≡ b)
+  pub taken : (b : ℕ) → v.blocks b ≡ None → is_used w b ≡ true
+      → (form : Form) × (m : ℕ) × (block_at g v (numbered n form m) ≢ 0) × (block_at g w (numbered n form m) ≡ b)
 
 -- ---- none of them moves
 
-pub none_moves : (g : Request) (c v : View) (n : ℕ) (indices : List ℕ) → HasShape g v n indices → (through : Form → ℕ → Bool) → NodesMove g c v v n indices through
+pub none_moves : (g : Request) (c v : View) (n : ℕ) (indices : List ℕ) → HasShape g v n indices → (through : Form → ℕ → Bool)
+    → NodesMove g c v v n indices through
 none_moves g c v n indices shape through = record {
   shape = shape;
   head = refl;
@@ -91,7 +94,8 @@ none_moves g c v n indices shape through = record {
 abbrev pub IsNodeOrNone : Request → View → ℕ → ℕ → Type 0
 IsNodeOrNone g v n x = (x ≡ 0) ⊎ ((form : Form) × (l : ℕ) × (form ≢ Plain) × (block_at g v (numbered n form l) ≡ x) × (block_at g v (numbered n form l) ≢ 0))
 
-module _ (g : Request) (c v w : View) (n : ℕ) (indices : List ℕ) (shape : HasShape g v n indices) (f : Form) (m b top : ℕ) (there : block_at g v (numbered n f m) ≢ 0) (step : StepOf g c v w n f m b top)
+module _ (g : Request) (c v w : View) (n : ℕ) (indices : List ℕ) (shape : HasShape g v n indices) (f : Form) (m b top : ℕ)
+    (there : block_at g v (numbered n f m) ≢ 0) (step : StepOf g c v w n f m b top)
     (node : f ≢ Plain) (top_is : IsNodeOrNone g v n top) where
   abbrev from : ℕ
   from = block_at g v (numbered n f m)
@@ -121,12 +125,15 @@ module _ (g : Request) (c v w : View) (n : ℕ) (indices : List ℕ) (shape : Ha
     | inl h ↦
         let old : block_at g v (numbered n form l) ≡ from = ap (block_at g v) (here_is form l h) in
         let new = to_here form l h in
-        inr (record { fresh = ap v.blocks new ∙ step.fresh.unused; gone = ap w.blocks old ∙ step.gone; was = λ some. ap (is_used c) old ∙ committed }, ap (is_new c w) new ∙ step.is_fresh)
+        inr
+        (record { fresh = ap v.blocks new ∙ step.fresh.unused; gone = ap w.blocks old ∙ step.gone; was = λ some. ap (is_used c) old ∙ committed }, ap (is_new c w) new ∙ step.is_fresh)
     | inr off ↦ inl (to_other form l off)
   ]
 
   -- what is neither of the two is as it was, or a pointer node of which a pointer was set
-  rest : (x : ℕ) → x ≢ b → x ≢ from → (w.blocks x ≡ v.blocks x) ⊎ ((form : Form) × (l : ℕ) × (form ≢ Plain) × (block_at g v (numbered n form l) ≡ x) × (block_at g v (numbered n form l) ≢ 0) × (is_used w x ≡ true))
+  rest : (x : ℕ) → x ≢ b → x ≢ from
+      → (w.blocks x ≡ v.blocks x)
+      ⊎ ((form : Form) × (l : ℕ) × (form ≢ Plain) × (block_at g v (numbered n form l) ≡ x) × (block_at g v (numbered n form l) ≢ 0) × (is_used w x ≡ true))
   rest x far away = elim (cases_eq x top) [
     | inr other ↦ inl (step.others x far away other)
     | inl is ↦ elim top_is [
@@ -176,7 +183,8 @@ module _ (g : Request) (c v w : View) (n : ℕ) (indices : List ℕ) (shape : Ha
 
 -- ---- two steps
 
-pub two_move : (g : Request) (c v u w : View) (n : ℕ) (indices : List ℕ) (one two : Form → ℕ → Bool) → HasShape g v n indices → ((i : ℕ) → one Plain i ≡ false) → NodesMove g c v u n indices one → NodesMove g c u w n indices two
+pub two_move : (g : Request) (c v u w : View) (n : ℕ) (indices : List ℕ) (one two : Form → ℕ → Bool) → HasShape g v n indices → ((i : ℕ) → one Plain i ≡ false)
+    → NodesMove g c v u n indices one → NodesMove g c u w n indices two
     → NodesMove g c v w n indices (λ form m. one form m || two form m)
 two_move g c v u w n indices one two shape no_data a b = record {
   shape = b.shape;
@@ -245,7 +253,8 @@ two_move g c v u w n indices one two shape no_data a b = record {
     was_there form m there none = position_there g v n indices shape form m (listed g u n indices a.shape form m there) none
 
     there_u : (form : Form) (m : ℕ) → is_new c u (block_at g u (numbered n form m)) ≡ true → block_at g u (numbered n form m) ≢ 0
-    there_u form m new none = used_not_none (u.blocks 0) (ap (is_used u) (sym none) ∙ new_used c u (block_at g u (numbered n form m)) new) (unused_zero g u a.shape.view)
+    there_u form m new none =
+        used_not_none (u.blocks 0) (ap (is_used u) (sym none) ∙ new_used c u (block_at g u (numbered n form m)) new) (unused_zero g u a.shape.view)
 
     -- a block that the last point does not have is not dropped
     never_used : (x : ℕ) → u.blocks x ≡ None → is_used c x ≡ false → v.blocks x ≡ None
@@ -266,8 +275,10 @@ two_move g c v u w n indices one two shape no_data a b = record {
           ]
     ]
 
-    new_still : (form : Form) (m : ℕ) → is_new c u (block_at g u (numbered n form m)) ≡ true → block_at g w (numbered n form m) ≡ block_at g u (numbered n form m) → is_new c w (block_at g w (numbered n form m)) ≡ true
+    new_still : (form : Form) (m : ℕ) → is_new c u (block_at g u (numbered n form m)) ≡ true
+        → block_at g w (numbered n form m) ≡ block_at g u (numbered n form m) → is_new c w (block_at g w (numbered n form m)) ≡ true
     new_still form m was still =
         let new = uncommitted c u (block_at g u (numbered n form m)) was in
-        let used : is_used w (block_at g u (numbered n form m)) ≡ true = b.kept (block_at g u (numbered n form m)) (new_used c u (block_at g u (numbered n form m)) was) new in
+        let used : is_used w (block_at g u (numbered n form m)) ≡ true =
+        b.kept (block_at g u (numbered n form m)) (new_used c u (block_at g u (numbered n form m)) was) new in
         ap (is_new c w) still ∙ (λ i. used i && not (new i))
