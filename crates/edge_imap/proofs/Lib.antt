@@ -5,3 +5,4 @@ pub mod CountLaws
 pub mod TieLaws
 pub mod LoadLaws
 pub mod ListLaws
+pub mod PairLaws
