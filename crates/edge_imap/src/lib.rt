@@ -23,3 +23,6 @@ pub use laws::{
     the_spare_place_is_not_live, the_spare_place_is_of_the_nodes,
 };
 pub use room::Room;
+
+#[cfg(test)]
+mod tests;
