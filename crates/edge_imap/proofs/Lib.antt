@@ -5,3 +5,5 @@ pub mod CountLaws
 pub mod TieLaws
 pub mod LoadLaws
 pub mod ListLaws
+pub mod ZeroLaws
+pub mod PairLaws

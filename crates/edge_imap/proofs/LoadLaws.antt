@@ -1,5 +1,5 @@
 -- Reading all live nodes, and counting their free bits.
-use Rattle.std.proofs.Common.{◌≡◌, ◌⊎◌, inl, inr, ⊎_elim, ℕ, ◌+◌, ◌*◌, ◌-◌, ◌<◌, ◌≤◌, ◌&&◌, not, Bool, true, false, max, min, List, drop, refl, sym, ap, ◌∙◌, subst, arith}
+use Rattle.std.proofs.Common.{◌≡◌, ◌≢◌, ◌⊎◌, inl, inr, ⊎_elim, ℕ, ◌+◌, ◌*◌, ◌-◌, ◌<◌, ◌≤◌, ◌&&◌, not, Bool, true, false, max, min, List, drop, refl, sym, ap, ◌∙◌, subst, arith}
 use Rattle.std.specs.Prelude.{Result, Ok, Err, OnErr, IsErr, IsErrAnd, IfOk, IsTrue, is_ok, is_err}
 use Rattle.std.specs.List.{count_by, range_with_len}
 use Rattle.std.proofs.lemmas.Bool.{cases_lt}
@@ -9,7 +9,7 @@ use Rattle.edge_base.specs.layout.Bitmap.{bit_under, used_under, live_place}
 use Rattle.edge_base.specs.layout.Bytes.{bit_in, number_at}
 use Rattle.edge_base.specs.layout.Places.{is_inline_of, imap_nodes_of, table_start_of, first_allocable_of, allocable_of}
 use Rattle.edge_base.specs.layout.Sizes.{node_bits}
-use Rattle.edge_base.specs.layout.Spelling.{SpellsImap, imap_in, bits_of_node}
+use Rattle.edge_base.specs.layout.Spelling.{SpellsImap, imap_in}
 use Rattle.edge_base.specs.outside.Faults.{Rose}
 use Rattle.edge_alloc.specs.Pairs.{is_free}
 use Rattle.edge_cache.specs.Cached.{Cached}
@@ -18,7 +18,7 @@ use Rattle.edge_disk.specs.declared.disk.Disk.{Ghosts}
 use Rattle.edge_nodes.proofs.ImapLaws.{imap_in-spelled}
 use Rattle.edge_imap.specs.declared.fault.LoadFault.{LoadFault}
 use Rattle.edge_imap.specs.declared.fault.LoadFault.TheVariants.{Device, Node, Memory}
-use Rattle.edge_imap.specs.Bitmaps.{IsNode, HasNodes, IsTied, bitmaps, bits_of, first_bit, count_clear, count_in_node, allocable_counts}
+use Rattle.edge_imap.specs.Bitmaps.{IsNode, IsWindow, HasNodes, IsTied, bitmaps, bits_of, first_bit, count_clear, count_in_node, allocable_counts}
 use Rattle.edge_imap.specs.Reading.{OnlyReads, TellsNode, TellsLoad}
 use Rattle.edge_imap.proofs.BitLaws.{bit_in-drop, bit_in_node}
 use Rattle.edge_imap.proofs.CallLaws.{shows_on}
@@ -142,21 +142,22 @@ both_not : (a : Bool) → (not a && not a) ≡ not a
 both_not true = refl
 both_not false = refl
 
--- the free bits of a window of a node
-pub count_window : (g : Request) (j start low stop : ℕ) (bits b : List ℕ) → bits ≡ drop 16 b → start ≡ j * node_bits g.block_size → low ≡ max start (first_bit g) → stop ≡ start + bits_of_node g j → low < stop
-    → count_by (is_free bits bits) (range_with_len (low - start) (stop - low)) ≡ count_in_node g j b
-count_window g j start low stop bits b is at from to some =
+-- the free bits of the window of a node
+pub count_window : (g : Request) (j first len : ℕ) (bits b : List ℕ) → bits ≡ drop 16 b → IsWindow g j first len → count_by (is_free bits bits) (range_with_len first len) ≡ count_in_node g j b
+count_window g j first len bits b is w =
     let s = j * node_bits g.block_size in
-    let first : low - start ≡ max (first_bit g) s - s = omega (arith, at, from) in
-    let len : stop - low ≡ min (s + node_bits g.block_size) (bits_of g) - max (first_bit g) s = omega (arith, at, from, to, some) in
-    count-alike (λ k. not (bit_in 16 b k)) (is_free bits bits) (low - start) (stop - low) (λ k on lt. both_not (bit_in 0 bits k) ∙ ap not (ap (λ (l : List ℕ). bit_in 0 l k) is ∙ bit_in-drop b k))
-    ∙ (λ i. count_by (λ k. not (bit_in 16 b k)) (range_with_len (first i) (len i)))
-
-pub count_no_window : (g : Request) (j start low stop : ℕ) (b : List ℕ) → start ≡ j * node_bits g.block_size → low ≡ max start (first_bit g) → stop ≡ start + bits_of_node g j → stop ≤ low → 0 ≡ count_in_node g j b
-count_no_window g j start low stop b at from to none =
-    let s = j * node_bits g.block_size in
-    let len : min (s + node_bits g.block_size) (bits_of g) - max (first_bit g) s ≡ 0 = omega (arith, at, from, to, none) in
-    sym (ap (λ (n : ℕ). count_by (λ k. not (bit_in 16 b k)) (range_with_len (max (first_bit g) s - s) n)) len)
+    let many : len ≡ min (s + node_bits g.block_size) (bits_of g) - max (first_bit g) s = omega (arith, w.begins, w.ends) in
+    count-alike (λ k. not (bit_in 16 b k)) (is_free bits bits) first len (λ k on lt. both_not (bit_in 0 bits k) ∙ ap not (ap (λ (l : List ℕ). bit_in 0 l k) is ∙ bit_in-drop b k))
+    ∙ elim (cases_lt 0 len) [
+      | inl some ↦
+          let at : first ≡ max (first_bit g) s - s = omega (arith, w.begins, w.ends, some) in
+          (λ i. count_by (λ k. not (bit_in 16 b k)) (range_with_len (at i) (many i)))
+      | inr none ↦
+          let left : len ≡ 0 = omega (arith, none) in
+          let right : min (s + node_bits g.block_size) (bits_of g) - max (first_bit g) s ≡ 0 = sym many ∙ left in
+          ap (λ (n : ℕ). count_by (λ k. not (bit_in 16 b k)) (range_with_len first n)) left
+          ∙ sym (ap (λ (n : ℕ). count_by (λ k. not (bit_in 16 b k)) (range_with_len (max (first_bit g) s - s) n)) right)
+    ]
 
 -- how far the nodes before j reach
 abbrev pub reached : Request → ℕ → ℕ
@@ -234,3 +235,10 @@ load_tied g roots c w old new n one two same nodes is =
     let at : IsTied (bitmaps g roots roots (record { free = n; almost = 0 })) old = record { committed = nodes; working = nodes; counts = counts_loaded g roots old n is } in
     subst (λ (f : ℕ → List ℕ). IsTied (bitmaps g c w (record { free = n; almost = 0 })) f) contents
     (subst (λ (l : List ℕ). IsTied (bitmaps g l w (record { free = n; almost = 0 })) old) (sym one) (subst (λ (l : List ℕ). IsTied (bitmaps g roots l (record { free = n; almost = 0 })) old) (sym two) at))
+
+-- a fault that was passed on is not want of memory
+pub not_memory : {S T : Type 0} (s : Result S LoadFault) (r : Result T LoadFault) (e : LoadFault) → s ≢ Err Memory → s ≡ Err e → IsErr r × IsErrAnd r (λ x. x ≡ e) → r ≢ Err Memory
+not_memory s (Ok v) e never is fails h = absurd (cc (fails.0))
+not_memory s (Err x) e never is fails h =
+    let at : e ≡ Memory = cc (fails.1, h) in
+    never (is ∙ ap (λ (y : LoadFault). Err y) at)

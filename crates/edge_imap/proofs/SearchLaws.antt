@@ -6,10 +6,9 @@ use Rattle.std.proofs.lemmas.Bool.{cases_lt, le-leb, leb-true}
 use Rattle.edge_base.specs.layout.Bytes.{bit_in}
 use Rattle.edge_base.specs.declared.geometry.Request.{Request}
 use Rattle.edge_base.specs.layout.Sizes.{node_bits}
-use Rattle.edge_base.specs.layout.Spelling.{bits_of_node}
 use Rattle.edge_alloc.specs.Pairs.{is_free}
 use Rattle.edge_bits.specs.Bits.{IsLeast, NonePasses}
-use Rattle.edge_imap.specs.Bitmaps.{bits_of, first_bit}
+use Rattle.edge_imap.specs.Bitmaps.{IsWindow, bits_of, first_bit}
 use Rattle.edge_imap.proofs.BitLaws.{bit_in-drop}
 use Rattle.edge_imap.specs.Search.{IsWithin, IsNext, Finds, FindsLeast, is_clear_in, reaches}
 
@@ -169,31 +168,22 @@ module _ (p : ℕ → Bool) (low top a b from : ℕ) (on : a ≤ from) (below : 
 
 -- ---- the bits of a node
 
--- The allocable bits of node j: from `low` on and below `stop`.
-pub record IsWindow (g : Request) (j start low stop : ℕ) : Type 0 where
-  pub start_is : start ≡ j * node_bits g.block_size
-  pub low_is : low ≡ max start (first_bit g)
-  pub stop_is : stop ≡ start + bits_of_node g j
+pub window_empty : (g : Request) (j first len : ℕ) (test : ℕ → Bool) → IsWindow g j first len → len ≡ 0 → NonePasses test (max (first_bit g) (j * node_bits g.block_size)) (min (j * node_bits g.block_size + node_bits g.block_size) (bits_of g))
+window_empty g j first len test w none = λ k on lt. absurd (omega (arith, w.begins, w.ends, none, on, lt))
 
-stop_low : (g : Request) (j start low stop k : ℕ) → IsWindow g j start low stop → max (first_bit g) (j * node_bits g.block_size) ≤ k → k < min (j * node_bits g.block_size + node_bits g.block_size) (bits_of g) → (low ≤ k) × (k < stop)
-stop_low g j start low stop k w on lt = (omega (arith, w.start_is, w.low_is, on), omega (arith, w.start_is, w.stop_is, lt))
+module _ (g : Request) (j first len : ℕ) (test bits : ℕ → Bool) (w : IsWindow g j first len) (some : 0 < len) (same : (k : ℕ) → k < node_bits g.block_size → test (j * node_bits g.block_size + k) ≡ bits k) where
+  low_at : max (first_bit g) (j * node_bits g.block_size) ≡ j * node_bits g.block_size + first
+  low_at = omega (arith, w.begins, w.ends, some)
 
-pub window_empty : (g : Request) (j start low stop : ℕ) (test : ℕ → Bool) → IsWindow g j start low stop → stop ≤ low → NonePasses test (max (first_bit g) (j * node_bits g.block_size)) (min (j * node_bits g.block_size + node_bits g.block_size) (bits_of g))
-window_empty g j start low stop test w le = λ k on lt. let h = stop_low g j start low stop k w on lt in absurd (omega (arith, le, h.0, h.1))
+  stop_at : min (j * node_bits g.block_size + node_bits g.block_size) (bits_of g) ≡ j * node_bits g.block_size + (first + len)
+  stop_at = omega (arith, w.begins, w.ends, some)
 
-module _ (g : Request) (j start low stop : ℕ) (test bits : ℕ → Bool) (w : IsWindow g j start low stop) (some : low < stop) (same : (k : ℕ) → k < node_bits g.block_size → test (j * node_bits g.block_size + k) ≡ bits k) where
-  low_at : max (first_bit g) (j * node_bits g.block_size) ≡ start + (low - start)
-  low_at = omega (arith, w.start_is, w.low_is)
+  same_at : (k : ℕ) → first ≤ k → k < first + len → test (j * node_bits g.block_size + k) ≡ bits k
+  same_at k on lt = same k (omega (arith, w.ends, lt))
 
-  stop_at : min (j * node_bits g.block_size + node_bits g.block_size) (bits_of g) ≡ start + (low - start + (stop - low))
-  stop_at = omega (arith, w.start_is, w.low_is, w.stop_is, some)
+  pub window_next : (from i : ℕ) → IsNext bits first (first + len) (from - j * node_bits g.block_size) i
+      → IsNext test (max (first_bit g) (j * node_bits g.block_size)) (min (j * node_bits g.block_size + node_bits g.block_size) (bits_of g)) from (j * node_bits g.block_size + i)
+  window_next from i n = next_shift bits test (j * node_bits g.block_size) first (first + len) from _ _ i low_at stop_at same_at n
 
-  same_at : (k : ℕ) → low - start ≤ k → k < low - start + (stop - low) → test (start + k) ≡ bits k
-  same_at k on lt = ap (λ (s : ℕ). test (s + k)) w.start_is ∙ same k (omega (arith, w.start_is, w.low_is, w.stop_is, some, lt))
-
-  pub window_next : (from i : ℕ) → IsNext bits (low - start) (low - start + (stop - low)) (from - start) i
-      → IsNext test (max (first_bit g) (j * node_bits g.block_size)) (min (j * node_bits g.block_size + node_bits g.block_size) (bits_of g)) from (start + i)
-  window_next from i n = next_shift bits test start (low - start) (low - start + (stop - low)) from _ _ i low_at stop_at same_at n
-
-  pub window_none : NonePasses bits (low - start) (low - start + (stop - low)) → NonePasses test (max (first_bit g) (j * node_bits g.block_size)) (min (j * node_bits g.block_size + node_bits g.block_size) (bits_of g))
-  window_none n = none_shift bits test start (low - start) (low - start + (stop - low)) _ _ low_at stop_at same_at n
+  pub window_none : NonePasses bits first (first + len) → NonePasses test (max (first_bit g) (j * node_bits g.block_size)) (min (j * node_bits g.block_size + node_bits g.block_size) (bits_of g))
+  window_none n = none_shift bits test (j * node_bits g.block_size) first (first + len) _ _ low_at stop_at same_at n

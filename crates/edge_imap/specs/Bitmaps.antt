@@ -7,7 +7,7 @@ use Rattle.edge_base.specs.layout.Bitmap.{bit_under, used_under, live_place}
 use Rattle.edge_base.specs.layout.Bytes.{number_at, bit_in}
 use Rattle.edge_base.specs.layout.Places.{imap_nodes_of, imap_place_of, table_start_of, first_allocable_of, allocable_of, root_bits_of}
 use Rattle.edge_base.specs.layout.Sizes.{node_bits}
-use Rattle.edge_base.specs.layout.Spelling.{SpellsImap}
+use Rattle.edge_base.specs.layout.Spelling.{SpellsImap, bits_of_node}
 use Rattle.edge_alloc.specs.declared.Counts.{Counts}
 use Rattle.edge_disk.specs.Disk.{Origin}
 use Rattle.edge_imap.specs.declared.fault.BlockState.{BlockState}
@@ -85,21 +85,32 @@ spare_place g roots i = imap_place_of g i (not (bit_in 0 roots i))
 abbrev pub node_of : Request → ℕ → ℕ
 node_of g bit = bit / node_bits g.block_size
 
+-- The bits of node j that stand for allocable blocks: so many, from its bit `first` on.
+pub record IsWindow (g : Request) (j first len : ℕ) : Type 0 where
+  pub begins : first ≡ min (bits_of_node g j) (first_bit g - j * node_bits g.block_size)
+  pub ends : first + len ≡ bits_of_node g j
+
 -- a block is the live place of a pair
 abbrev pub IsLive : Request → List ℕ → ℕ → Type 0
 IsLive g roots k = (j : ℕ) × (j < imap_nodes_of g) × (k ≡ live_place g roots j)
 
--- and under one of the two roots
+-- and under one of two roots
+abbrev pub IsLiveUnder : Request → List ℕ → List ℕ → ℕ → Type 0
+IsLiveUnder g committed working k = IsLive g committed k ⊎ IsLive g working k
+
 abbrev pub IsNamed : Bitmaps → ℕ → Type 0
-IsNamed m k = IsLive m.geometry m.committed k ⊎ IsLive m.geometry m.working k
+IsNamed m k = IsLiveUnder m.geometry m.committed m.working k
 
 -- a block is the live place of the pair that holds a bit
 abbrev pub HoldsBit : Request → List ℕ → ℕ → ℕ → Type 0
 HoldsBit g roots bit k = (node_of g bit < imap_nodes_of g) × (k ≡ live_place g roots (node_of g bit))
 
--- and under one of the two roots
+-- and under one of two roots
+abbrev pub HoldsBitUnder : Request → List ℕ → List ℕ → ℕ → ℕ → Type 0
+HoldsBitUnder g committed working bit k = HoldsBit g committed bit k ⊎ HoldsBit g working bit k
+
 abbrev pub IsNamedFor : Bitmaps → ℕ → ℕ → Type 0
-IsNamedFor m bit k = HoldsBit m.geometry m.committed bit k ⊎ HoldsBit m.geometry m.working bit k
+IsNamedFor m bit k = HoldsBitUnder m.geometry m.committed m.working bit k
 
 -- ---- the tie to a cache
 

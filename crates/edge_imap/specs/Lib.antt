@@ -1,3 +1,4 @@
 pub mod Bitmaps
 pub mod Search
 pub mod Reading
+pub mod Inodes

@@ -1,13 +1,16 @@
-ghost use Rattle.std.specs.Prelude.{◌≡◌, ◌<◌, ℕ, List, true, IfOk, IfSome, IsOk, OnOk, OnErr, IsTrue};
+ghost use Rattle.std.specs.Prelude.{◌≡◌, ◌≢◌, ◌<◌, ◌+◌, ℕ, List, true, IfOk, IfSome, IsOk, OnOk, OnErr, IsTrue};
 ghost use Rattle.edge_base.specs.layout.Places.{is_inline_of};
 ghost use Rattle.edge_cache.specs.Calls.{content_in};
-ghost use Rattle.edge_imap.specs.Bitmaps.{IsRootBits, IsFit, IsTied, bits_of, first_bit, committed_bit, working_bit, is_free_bit, state_of, IsNamed, IsNamedFor};
+ghost use Rattle.edge_imap.specs.Bitmaps.{IsRootBits, IsFit, IsTied, bits_of, first_bit, committed_bit, working_bit, is_free_bit, state_of, working_use, IsNamed, IsNamedFor};
 ghost use Rattle.edge_imap.specs.Reading.{OnlyReads, TellsWhy, TellsLoad, NeverDamaged, Sets};
-ghost use Rattle.edge_imap.specs.Search.{Finds, IsWithin};
+ghost use Rattle.edge_imap.specs.Inodes.{is_free_number, free_inodes_of};
+ghost use Rattle.edge_imap.specs.Search.{Finds, FindsLeast, IsWithin};
 
 use crate::change::Change;
 use crate::fault::{BlockState, ImapFault, LoadFault};
+use crate::inodes::{count_numbers, first_number};
 use crate::load::load_roots;
+use crate::room::Room;
 use crate::search::next_bit;
 use crate::state::{set_bit, state_of_bit};
 use edge_alloc::Counts;
@@ -53,7 +56,7 @@ impl Model for Imap {
 
 impl Imap {
     /// The bitmap below the bits of the live metaroot. The two lists are the same. It takes all
-    /// memory that this bitmap ever takes.
+    /// memory that this bitmap ever takes, before it reads.
     pub fn load<D: Disk>(
         alloc: Global,
         g: Geometry,
@@ -70,11 +73,37 @@ impl Imap {
         ensures cause { TellsLoad D.Disk g live_bits.now cache.old cache.new result }
         ensures reads { OnlyReads D.Disk cache.old cache.new }
     {
-        let size = g.request().block_size as usize;
-        let mut one = vec![in alloc; 0u8; size]?;
-        let two = vec![in alloc; 0u8; size]?;
-        let committed = live_bits.to_vec(alloc)?;
-        let working = live_bits.to_vec(alloc)?;
+        let room = Room::new(alloc, g.request().block_size)?;
+        Imap::load_in(room, g, live_bits, cache)
+    }
+
+    /// The same in memory that was taken before.
+    pub fn load_in<D: Disk>(
+        room: Room,
+        g: Geometry,
+        live_bits: &[u8],
+        cache: &mut Cache<D>,
+    ) -> Result<Imap, LoadFault>
+        requires room { room ≡ g.block_size }
+        requires bits { IsRootBits g live_bits.now }
+        requires fits { IsFit g (D.origin cache.old.disk) }
+        ensures geometry { IfOk result (λ m. m.geometry ≡ g) }
+        ensures committed { IfOk result (λ m. m.committed ≡ live_bits.now) }
+        ensures working { IfOk result (λ m. m.working ≡ live_bits.now) }
+        ensures tied { IsTrue (D.origin cache.old.disk).shows
+            → IfOk result (λ m. IsTied m (content_in D.Disk cache.new)) }
+        ensures memory { result ≢ Err LoadFault.Memory }
+        ensures cause { TellsLoad D.Disk g live_bits.now cache.old cache.new result }
+        ensures reads { OnlyReads D.Disk cache.old cache.new }
+    {
+        let Room {
+            mut committed,
+            mut working,
+            mut one,
+            two,
+        } = room;
+        committed.copy_from_slice(live_bits);
+        working.copy_from_slice(live_bits);
         let free = load_roots(&g, live_bits, cache, &mut one)?;
         Ok(Imap {
             geometry: g,
@@ -129,6 +158,7 @@ impl Imap {
             → (self.new ≡ self.old) × OnlyReads D.Disk cache.old cache.new }
         ensures unset { OnErr result (self.new ≡ self.old) }
         ensures fault { OnErr result (OnlyReads D.Disk cache.old cache.new) }
+        ensures origin { D.origin cache.new.disk ≡ D.origin cache.old.disk }
         ensures cause { TellsWhy D.Disk (IsNamedFor self.old bit) cache.old cache.new result }
         ensures sound { IsTrue (D.origin cache.old.disk).shows
             → IsTied self.old (content_in D.Disk cache.old) → NeverDamaged result }
@@ -182,6 +212,42 @@ impl Imap {
             &mut self.two,
             from,
         )
+    }
+
+    /// The least number of an inode that the working list leaves free, of whose two places it uses
+    /// neither; None exactly where there is none. What the last point uses makes no difference: it
+    /// says at which place a new inode may be written.
+    pub fn free_inode<D: Disk>(&mut self, cache: &mut Cache<D>) -> Result<Option<u32>, ImapFault>
+        requires fits { IsFit self.old.geometry (D.origin cache.old.disk) }
+        ensures found { IsTrue (D.origin cache.old.disk).shows → IfOk result (FindsLeast
+            (is_free_number self.old.geometry
+            (working_use self.old (content_in D.Disk cache.old)))
+            2 (2 + self.old.geometry.inodes)) }
+        ensures bound { IfOk result
+            (λ found. IfSome found (IsWithin 2 (2 + self.old.geometry.inodes))) }
+        ensures same { self.new ≡ self.old }
+        ensures cause { TellsWhy D.Disk (IsNamed self.old) cache.old cache.new result }
+        ensures sound { IsTrue (D.origin cache.old.disk).shows
+            → IsTied self.old (content_in D.Disk cache.old) → NeverDamaged result }
+        ensures reads { OnlyReads D.Disk cache.old cache.new }
+    {
+        first_number(&self.geometry, &self.working, cache, &mut self.one)
+    }
+
+    /// How many numbers of inodes the working list leaves free. The nodes that have their bits are
+    /// read; so whoever needs the number often keeps it.
+    pub fn count_free_inodes<D: Disk>(&mut self, cache: &mut Cache<D>) -> Result<u32, ImapFault>
+        requires fits { IsFit self.old.geometry (D.origin cache.old.disk) }
+        ensures count { IsTrue (D.origin cache.old.disk).shows → IfOk result (λ n. n
+            ≡ free_inodes_of self.old.geometry
+            (working_use self.old (content_in D.Disk cache.old))) }
+        ensures same { self.new ≡ self.old }
+        ensures cause { TellsWhy D.Disk (IsNamed self.old) cache.old cache.new result }
+        ensures sound { IsTrue (D.origin cache.old.disk).shows
+            → IsTied self.old (content_in D.Disk cache.old) → NeverDamaged result }
+        ensures reads { OnlyReads D.Disk cache.old cache.new }
+    {
+        count_numbers(&self.geometry, &self.working, cache, &mut self.one)
     }
 
     /// How many allocable blocks neither list uses, and how many the list of the last point alone

@@ -5,9 +5,12 @@
 mod change;
 mod fault;
 mod imap;
+mod inodes;
 mod laws;
 mod load;
 mod node;
+mod pairs;
+mod room;
 mod search;
 mod state;
 
@@ -19,3 +22,7 @@ pub use laws::{
     others_keep_the_tie, the_counts_are_of_the_working_list, the_live_nodes_tell_the_list,
     the_spare_place_is_not_live, the_spare_place_is_of_the_nodes,
 };
+pub use room::Room;
+
+#[cfg(test)]
+mod tests;

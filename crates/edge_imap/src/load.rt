@@ -1,5 +1,5 @@
 //! Reading the live nodes: each has to spell its node, and its free blocks are counted.
-ghost use Rattle.std.specs.Prelude.{◌≡◌, ◌<◌, true, false, length, OnOk, IfOk, IsTrue};
+ghost use Rattle.std.specs.Prelude.{◌≡◌, ◌≢◌, ◌<◌, true, false, length, OnOk, IfOk, IsTrue};
 ghost use Rattle.edge_base.specs.layout.Bitmap.{live_place, bit_under};
 ghost use Rattle.edge_base.specs.layout.Bytes.{bit_in};
 ghost use Rattle.edge_base.specs.layout.Places.{is_inline_of, imap_nodes_of};
@@ -8,7 +8,7 @@ ghost use Rattle.edge_imap.specs.Bitmaps.{IsRootBits, IsFit, IsNode, HasNodes, c
 ghost use Rattle.edge_imap.specs.Reading.{OnlyReads, TellsLoad, TellsNode};
 
 use crate::fault::LoadFault;
-use crate::node::{BITS, live_block};
+use crate::node::{BITS, live_block, window_of};
 use edge_alloc::{Window, counts_in};
 use edge_base::Geometry;
 use edge_cache::Cache;
@@ -49,21 +49,9 @@ fn count_node(g: &Geometry, block: &[u8], node: u32) -> u32
     requires node { node < imap_nodes_of g.now }
     ensures { result ≡ count_in_node g.now node block.now }
 {
-    let first = 2 * g.request().inodes;
-    let per_node = g.node_bits();
-    prove!(node < g.imap_nodes());
-    let start = node * per_node;
-    let low = start.max(first);
-    let end = start + g.bits_of_node(node);
-    if end <= low {
-        return 0;
-    }
-    let w = Window {
-        first: low - start,
-        len: end - low,
-    };
+    let _within_limits = g.request();
     let bits = bits_of(block, BITS);
-    counts_in(bits, bits, w).free
+    counts_in(bits, bits, window_of(g, node)).free
 }
 
 // Reads all live nodes, and counts the free allocable blocks.
@@ -82,6 +70,7 @@ fn load_nodes<D: Disk>(
     ensures count { IsTrue (D.origin cache.old.disk).shows → IfOk result
         (λ n. n ≡ count_clear g.now (bit_under g.now roots.now (content_in D.Disk cache.old))) }
     ensures reads { OnlyReads D.Disk cache.old cache.new }
+    ensures memory { result ≢ Err LoadFault.Memory }
     ensures cause { TellsLoad D.Disk g.now roots.now cache.old cache.new result }
 {
     let _within_limits = g.request();
@@ -121,6 +110,7 @@ pub(crate) fn load_roots<D: Disk>(
     ensures count { IsTrue (D.origin cache.old.disk).shows → IfOk result
         (λ n. n ≡ count_clear g.now (bit_under g.now roots.now (content_in D.Disk cache.old))) }
     ensures reads { OnlyReads D.Disk cache.old cache.new }
+    ensures memory { result ≢ Err LoadFault.Memory }
     ensures cause { TellsLoad D.Disk g.now roots.now cache.old cache.new result }
 {
     if !g.is_inline() {

@@ -4,10 +4,11 @@ ghost use Rattle.edge_base.specs.layout.Bitmap.{live_place, bit_under};
 ghost use Rattle.edge_base.specs.layout.Bytes.{bit_in};
 ghost use Rattle.edge_base.specs.layout.Places.{imap_nodes_of, is_inline_of, IsWithinLimits};
 ghost use Rattle.edge_cache.specs.Calls.{content_in, HasWholeBlocks};
-ghost use Rattle.edge_imap.specs.Bitmaps.{IsRootBits, IsFit, HoldsBit, bits_of, node_of};
+ghost use Rattle.edge_imap.specs.Bitmaps.{IsRootBits, IsFit, IsWindow, HoldsBit, bits_of, node_of};
 ghost use Rattle.edge_imap.specs.Reading.{OnlyReads, TellsWhy};
 
 use crate::fault::ImapFault;
+use edge_alloc::Window;
 use edge_base::{Damage, DamageKind, Geometry};
 use edge_bits::get;
 use edge_cache::Cache;
@@ -40,6 +41,21 @@ pub(crate) fn node_of_bit(g: &Geometry, bit: u32) -> u32
     let _within_limits = g.request();
     let _count = g.imap_nodes();
     bit / g.node_bits()
+}
+
+// The bits of a node that stand for allocable blocks. Before them lie those of the inode table.
+pub(crate) fn window_of(g: &Geometry, node: u32) -> Window
+    requires node { node < imap_nodes_of g.now }
+    ensures { IsWindow g.now node result.first result.len }
+{
+    prove!(node < g.imap_nodes());
+    let table = 2 * g.request().inodes;
+    let bits = g.bits_of_node(node);
+    let first = bits.min(table.saturating_sub(node * g.node_bits()));
+    Window {
+        first,
+        len: bits - first,
+    }
 }
 
 // Answers Damaged where a block's check word differs.

@@ -4,12 +4,12 @@ ghost use Rattle.edge_alloc.specs.Pairs.{is_free};
 ghost use Rattle.edge_base.specs.layout.Places.{is_inline_of, imap_nodes_of};
 ghost use Rattle.edge_base.specs.layout.Sizes.{node_bits};
 ghost use Rattle.edge_cache.specs.Calls.{content_in};
-ghost use Rattle.edge_imap.specs.Bitmaps.{IsRootBits, IsFit, IsLive, bits_of, first_bit, is_free_under, node_of};
+ghost use Rattle.edge_imap.specs.Bitmaps.{IsRootBits, IsFit, IsLiveUnder, bits_of, first_bit, is_free_under, node_of};
 ghost use Rattle.edge_imap.specs.Reading.{OnlyReads, TellsWhy};
 ghost use Rattle.edge_imap.specs.Search.{Finds, FindsLeast, IsWithin, is_clear_in, reaches};
 
 use crate::fault::ImapFault;
-use crate::node::{BITS, live_block, node_of_bit, read_node};
+use crate::node::{BITS, live_block, node_of_bit, read_node, window_of};
 use edge_alloc::{Window, free_in};
 use edge_base::Geometry;
 use edge_cache::Cache;
@@ -87,23 +87,17 @@ fn search_node<D: Disk>(
     ensures bound { IfOk result
         (λ found. IfSome found (IsWithin (first_bit g.now) (bits_of g.now))) }
     ensures reads { OnlyReads D.Disk cache.old cache.new }
-    ensures cause { TellsWhy D.Disk
-        (λ k. IsLive g.now committed.now k ⊎ IsLive g.now working.now k)
+    ensures cause { TellsWhy D.Disk (IsLiveUnder g.now committed.now working.now)
         cache.old cache.new result }
 {
-    let first = 2 * g.request().inodes;
+    let _within_limits = g.request();
     let per_node = g.node_bits();
     let node = from / per_node;
     let start = node * per_node;
-    let low = start.max(first);
-    let end = start + g.bits_of_node(node);
-    if end <= low {
+    let w = window_of(g, node);
+    if w.len == 0 {
         return Ok(None);
     }
-    let w = Window {
-        first: low - start,
-        len: end - low,
-    };
     let live = live_block(g, committed, node);
     let next = live_block(g, working, node);
     match next_of_pair(cache, one, two, live, next, w, from - start)? {
@@ -137,8 +131,7 @@ fn search_nodes<D: Disk>(
     ensures bound { IfOk result
         (λ found. IfSome found (IsWithin (first_bit g.now) (bits_of g.now))) }
     ensures reads { OnlyReads D.Disk cache.old cache.new }
-    ensures cause { TellsWhy D.Disk
-        (λ k. IsLive g.now committed.now k ⊎ IsLive g.now working.now k)
+    ensures cause { TellsWhy D.Disk (IsLiveUnder g.now committed.now working.now)
         cache.old cache.new result }
 {
     prove!(nodes.end <= g.imap_nodes());
@@ -186,8 +179,7 @@ fn search_round<D: Disk>(
     ensures bound { IfOk result
         (λ found. IfSome found (IsWithin (first_bit g.now) (bits_of g.now))) }
     ensures reads { OnlyReads D.Disk cache.old cache.new }
-    ensures cause { TellsWhy D.Disk
-        (λ k. IsLive g.now committed.now k ⊎ IsLive g.now working.now k)
+    ensures cause { TellsWhy D.Disk (IsLiveUnder g.now committed.now working.now)
         cache.old cache.new result }
 {
     let node = node_of_bit(g, from);
@@ -229,8 +221,7 @@ pub(crate) fn next_bit<D: Disk>(
     ensures bound { IfOk result
         (λ found. IfSome found (IsWithin (first_bit g.now) (bits_of g.now))) }
     ensures reads { OnlyReads D.Disk cache.old cache.new }
-    ensures cause { TellsWhy D.Disk
-        (λ k. IsLive g.now committed.now k ⊎ IsLive g.now working.now k)
+    ensures cause { TellsWhy D.Disk (IsLiveUnder g.now committed.now working.now)
         cache.old cache.new result }
 {
     if !g.is_inline() {

@@ -3,7 +3,7 @@ ghost use Rattle.std.specs.Prelude.{◌≡◌, ◌⊎◌, ◌<◌, ◌≤◌, tr
 ghost use Rattle.edge_base.specs.layout.Bitmap.{bit_under};
 ghost use Rattle.edge_base.specs.layout.Places.{is_inline_of, IsWithinLimits};
 ghost use Rattle.edge_cache.specs.Calls.{content_in};
-ghost use Rattle.edge_imap.specs.Bitmaps.{IsRootBits, IsFit, HoldsBit, IsTied, bitmaps, bits_of, first_bit, state_of, counts_after};
+ghost use Rattle.edge_imap.specs.Bitmaps.{IsRootBits, IsFit, HoldsBitUnder, IsTied, bitmaps, bits_of, first_bit, state_of, counts_after};
 ghost use Rattle.edge_imap.specs.Reading.{OnlyReads, TellsWhy, Sets};
 
 use crate::change::{Change, turn_bit};
@@ -30,7 +30,7 @@ pub(crate) fn state_of_bit<D: Disk>(
         (bit_under g.now committed.now (content_in D.Disk cache.old) bit)
         (bit_under g.now working.now (content_in D.Disk cache.old) bit)) }
     ensures cause { TellsWhy D.Disk
-        (λ k. HoldsBit g.now committed.now bit k ⊎ HoldsBit g.now working.now bit k)
+        (HoldsBitUnder g.now committed.now working.now bit)
         cache.old cache.new result }
     ensures reads { OnlyReads D.Disk cache.old cache.new }
 {
@@ -66,7 +66,7 @@ pub(crate) fn set_bit<D: Disk>(
     ensures unset { OnErr result ((working.new ≡ working.old) × (counts.new ≡ counts.old)) }
     ensures fault { OnErr result (OnlyReads D.Disk cache.old cache.new) }
     ensures cause { TellsWhy D.Disk
-        (λ k. HoldsBit g.now committed.now change.bit k ⊎ HoldsBit g.now working.old change.bit k)
+        (HoldsBitUnder g.now committed.now working.old change.bit)
         cache.old cache.new result }
     ensures tied { IsTrue (D.origin cache.old.disk).shows
         → IsTied (bitmaps g.now committed.now working.old counts.old) (content_in D.Disk cache.old)

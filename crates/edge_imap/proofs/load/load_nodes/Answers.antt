@@ -7,7 +7,7 @@ use Rattle.edge_cache.specs.Calls.{content_in}
 use Rattle.edge_disk.specs.Disk.{Origin}
 use Rattle.edge_imap.specs.Bitmaps.{IsFit, IsNode, bits_of}
 use Rattle.edge_imap.proofs.CallLaws.{reads_same, reads_after, shows_on}
-use Rattle.edge_imap.proofs.LoadLaws.{tells_after, tells_passed, count_before, count_before_few, count_first, count_next, count_last}
+use Rattle.edge_imap.proofs.LoadLaws.{not_memory, tells_after, tells_passed, count_before, count_before_few, count_first, count_next, count_last}
 use Rattle.edge_imap.proofs.load.load_nodes.Goals as goal
 
 pub loop-node-init : goal.loop-node-init
@@ -66,3 +66,6 @@ returns-clause-count g c = λ tells.
 
 pub returns-clause-cause : goal.returns-clause-cause
 returns-clause-cause g c = tells_passed g.D.Disk c.args.g.now c.args.roots.now _ _ _ c.loop-node.invariant.passed
+
+pub returns-in_err-load_node-clause-memory : goal.returns-in_err-load_node-clause-memory
+returns-in_err-load_node-clause-memory g c = not_memory c.load_node.result _ c.in_err-load_node.field-0.0 c.load_node.ensures.cause.memory c.in_err-load_node.was c.from_residual.ensures

@@ -1,8 +1,8 @@
-use Rattle.std.proofs.Common.{◌⊎◌, refl, sym, ◌∙◌}
+use Rattle.std.proofs.Common.{refl, sym, ◌∙◌}
 use Rattle.std.specs.Prelude.{not, ◌&&◌}
 use Rattle.edge_alloc.specs.Pairs.{is_free}
 use Rattle.edge_cache.specs.Calls.{content_in}
-use Rattle.edge_imap.specs.Bitmaps.{IsLive, first_bit, bits_of, is_free_under}
+use Rattle.edge_imap.specs.Bitmaps.{IsLiveUnder, first_bit, bits_of, is_free_under}
 use Rattle.edge_imap.proofs.BitLaws.{bit_of_root}
 use Rattle.edge_imap.proofs.CallLaws.{reads_same, why_passed}
 use Rattle.edge_imap.proofs.SearchLaws.{finds_alike, finds_bound}
@@ -23,7 +23,7 @@ pub returns-clause-reads : goal.returns-clause-reads
 returns-clause-reads g c = reads_same g.D.Disk c.args.cache.now
 
 pub returns-clause-cause : goal.returns-clause-cause
-returns-clause-cause g c = why_passed g.D.Disk (λ k. IsLive c.args.g.now c.args.committed.now k ⊎ IsLive c.args.g.now c.args.working.now k) _ _ _ refl
+returns-clause-cause g c = why_passed g.D.Disk (IsLiveUnder c.args.g.now c.args.committed.now c.args.working.now) _ _ _ refl
 
 pub returns-clause-bound : goal.returns-clause-bound
 returns-clause-bound g c = finds_bound (is_free c.args.committed.now c.args.working.now) (first_bit c.args.g.now) (bits_of c.args.g.now) c.args.from c.next_of_roots.result c.next_of_roots.ensures

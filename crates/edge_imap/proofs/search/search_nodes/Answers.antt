@@ -1,10 +1,10 @@
-use Rattle.std.proofs.Common.{◌≡◌, ◌⊎◌, ℕ, ◌+◌, ◌*◌, ◌/◌, max, min, List, refl, sym, ap, subst, ◌∙◌, arith}
+use Rattle.std.proofs.Common.{◌≡◌, ℕ, ◌+◌, ◌*◌, ◌/◌, max, min, List, refl, sym, ap, subst, ◌∙◌, arith}
 use Rattle.std.proofs.Math.Nat.{mul-le-mul_left}
 use Rattle.edge_base.specs.layout.Sizes.{node_bits}
 use Rattle.edge_bits.specs.Bits.{NonePasses}
 use Rattle.edge_cache.specs.Calls.{content_in}
 use Rattle.edge_disk.specs.Disk.{Origin}
-use Rattle.edge_imap.specs.Bitmaps.{IsFit, IsLive, node_of, first_bit, bits_of, is_free_under}
+use Rattle.edge_imap.specs.Bitmaps.{IsFit, IsLiveUnder, node_of, first_bit, bits_of, is_free_under}
 use Rattle.edge_imap.specs.Search.{Finds}
 use Rattle.edge_imap.proofs.BitLaws.{long_blocks, node_start}
 use Rattle.edge_imap.proofs.CallLaws.{reads_same, reads_after, why_passed, why_after, shows_on}
@@ -34,7 +34,7 @@ returns-in_err-found-clause-reads g c = reads_after g.D.Disk _ _ _ c.loop-node.i
 
 pub returns-in_err-found-clause-cause : goal.returns-in_err-found-clause-cause
 returns-in_err-found-clause-cause g c =
-    let live = λ (k : ℕ). IsLive c.args.g.now c.args.committed.now k ⊎ IsLive c.args.g.now c.args.working.now k in
+    let live = IsLiveUnder c.args.g.now c.args.committed.now c.args.working.now in
     why_after g.D.Disk live live c.args.cache.now c.loop-node.cache c.search_node.new.cache c.search_node.result _ c.in_err-found.field-0.0 (λ k h. h) c.loop-node.invariant.reads c.loop-node.invariant.passed
     c.search_node.ensures.cause c.in_err-found.was c.from_residual.ensures
 
@@ -62,7 +62,7 @@ pub returns-then-is_some-clause-reads : goal.returns-then-is_some-clause-reads
 returns-then-is_some-clause-reads g c = reads_after g.D.Disk _ _ _ c.loop-node.invariant.reads c.search_node.ensures.reads
 
 pub returns-then-is_some-clause-cause : goal.returns-then-is_some-clause-cause
-returns-then-is_some-clause-cause g c = why_passed g.D.Disk (λ k. IsLive c.args.g.now c.args.committed.now k ⊎ IsLive c.args.g.now c.args.working.now k) _ _ _ (c.in_ok-found.ensures.cause.passed ∙ c.loop-node.invariant.passed)
+returns-then-is_some-clause-cause g c = why_passed g.D.Disk (IsLiveUnder c.args.g.now c.args.committed.now c.args.working.now) _ _ _ (c.in_ok-found.ensures.cause.passed ∙ c.loop-node.invariant.passed)
 
 pub loop-node-preserved : goal.loop-node-preserved
 loop-node-preserved g c = record {
@@ -94,4 +94,4 @@ returns-clause-found g c = λ tells.
     (c.loop-node.invariant.none tells)
 
 pub returns-clause-cause : goal.returns-clause-cause
-returns-clause-cause g c = why_passed g.D.Disk (λ k. IsLive c.args.g.now c.args.committed.now k ⊎ IsLive c.args.g.now c.args.working.now k) _ _ _ c.loop-node.invariant.passed
+returns-clause-cause g c = why_passed g.D.Disk (IsLiveUnder c.args.g.now c.args.committed.now c.args.working.now) _ _ _ c.loop-node.invariant.passed

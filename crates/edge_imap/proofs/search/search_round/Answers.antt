@@ -1,9 +1,9 @@
-use Rattle.std.proofs.Common.{◌≡◌, ◌⊎◌, ℕ, ◌+◌, ◌*◌, ◌/◌, ◌<◌, ◌≤◌, max, min, List, refl, sym, subst, ◌∙◌, arith}
+use Rattle.std.proofs.Common.{◌≡◌, ℕ, ◌+◌, ◌*◌, ◌/◌, ◌<◌, ◌≤◌, max, min, List, refl, sym, subst, ◌∙◌, arith}
 use Rattle.edge_base.specs.layout.Places.{imap_nodes_of}
 use Rattle.edge_base.specs.layout.Sizes.{node_bits}
 use Rattle.edge_cache.specs.Calls.{content_in}
 use Rattle.edge_disk.specs.Disk.{Origin}
-use Rattle.edge_imap.specs.Bitmaps.{IsFit, IsLive, first_bit, bits_of, is_free_under}
+use Rattle.edge_imap.specs.Bitmaps.{IsFit, IsLiveUnder, first_bit, bits_of, is_free_under}
 use Rattle.edge_imap.specs.Search.{Finds, FindsLeast}
 use Rattle.edge_imap.proofs.BitLaws.{long_blocks}
 use Rattle.edge_imap.proofs.CallLaws.{reads_same, reads_after, why_passed, why_after, shows_on}
@@ -15,7 +15,7 @@ search_node-requires-clause-from g c = subst (λ (n : ℕ). n < imap_nodes_of c.
 
 pub returns-in_err-here-clause-cause : goal.returns-in_err-here-clause-cause
 returns-in_err-here-clause-cause g c =
-    let live = λ (k : ℕ). IsLive c.args.g.now c.args.committed.now k ⊎ IsLive c.args.g.now c.args.working.now k in
+    let live = IsLiveUnder c.args.g.now c.args.committed.now c.args.working.now in
     why_after g.D.Disk live live c.args.cache.now c.args.cache.now c.search_node.new.cache c.search_node.result _ c.in_err-here.field-0.0 (λ k h. h) (reads_same g.D.Disk c.args.cache.now) refl
     c.search_node.ensures.cause c.in_err-here.was c.from_residual.ensures
 
@@ -39,7 +39,7 @@ returns-then-is_from-clause-found g c = λ tells.
     (sym c.is_from.ensures ∙ c.if-is_from.true) here
 
 pub returns-then-is_from-clause-cause : goal.returns-then-is_from-clause-cause
-returns-then-is_from-clause-cause g c = why_passed g.D.Disk (λ k. IsLive c.args.g.now c.args.committed.now k ⊎ IsLive c.args.g.now c.args.working.now k) _ _ _ c.in_ok-here.ensures.cause.passed
+returns-then-is_from-clause-cause g c = why_passed g.D.Disk (IsLiveUnder c.args.g.now c.args.committed.now c.args.working.now) _ _ _ c.in_ok-here.ensures.cause.passed
 
 pub search_nodes-requires-clause-fits : goal.search_nodes-requires-clause-fits
 search_nodes-requires-clause-fits g c = subst (λ (o : Origin). IsFit c.args.g.now o) (sym c.search_node.ensures.reads.origin) c.requires.fits
@@ -49,7 +49,7 @@ returns-in_err-after-clause-reads g c = reads_after g.D.Disk _ _ _ c.search_node
 
 pub returns-in_err-after-clause-cause : goal.returns-in_err-after-clause-cause
 returns-in_err-after-clause-cause g c =
-    let live = λ (k : ℕ). IsLive c.args.g.now c.args.committed.now k ⊎ IsLive c.args.g.now c.args.working.now k in
+    let live = IsLiveUnder c.args.g.now c.args.committed.now c.args.working.now in
     why_after g.D.Disk live live c.args.cache.now c.search_node.new.cache c.search_nodes.new.cache c.search_nodes.result _ c.in_err-after.field-0.0 (λ k h. h) c.search_node.ensures.reads c.in_ok-here.ensures.cause.passed
     c.search_nodes.ensures.cause c.in_err-after.was c.from_residual-in_err-after.ensures
 
@@ -76,7 +76,7 @@ pub returns-then-is_some-clause-reads : goal.returns-then-is_some-clause-reads
 returns-then-is_some-clause-reads g c = reads_after g.D.Disk _ _ _ c.search_node.ensures.reads c.search_nodes.ensures.reads
 
 pub returns-then-is_some-clause-cause : goal.returns-then-is_some-clause-cause
-returns-then-is_some-clause-cause g c = why_passed g.D.Disk (λ k. IsLive c.args.g.now c.args.committed.now k ⊎ IsLive c.args.g.now c.args.working.now k) _ _ _ (c.in_ok-after.ensures.cause.passed ∙ c.in_ok-here.ensures.cause.passed)
+returns-then-is_some-clause-cause g c = why_passed g.D.Disk (IsLiveUnder c.args.g.now c.args.committed.now c.args.working.now) _ _ _ (c.in_ok-after.ensures.cause.passed ∙ c.in_ok-here.ensures.cause.passed)
 
 pub search_nodes-requires-2-clause-fits : goal.search_nodes-requires-2-clause-fits
 search_nodes-requires-2-clause-fits g c = subst (λ (o : Origin). IsFit c.args.g.now o) (sym (c.search_nodes.ensures.reads.origin ∙ c.search_node.ensures.reads.origin)) c.requires.fits
@@ -86,7 +86,7 @@ returns-in_err-before-clause-reads g c = reads_after g.D.Disk _ _ _ (reads_after
 
 pub returns-in_err-before-clause-cause : goal.returns-in_err-before-clause-cause
 returns-in_err-before-clause-cause g c =
-    let live = λ (k : ℕ). IsLive c.args.g.now c.args.committed.now k ⊎ IsLive c.args.g.now c.args.working.now k in
+    let live = IsLiveUnder c.args.g.now c.args.committed.now c.args.working.now in
     why_after g.D.Disk live live c.args.cache.now c.search_nodes.new.cache c.search_nodes-2.new.cache c.search_nodes-2.result _ c.in_err-before.field-0.0 (λ k h. h) (reads_after g.D.Disk _ _ _ c.search_node.ensures.reads c.search_nodes.ensures.reads)
     (c.in_ok-after.ensures.cause.passed ∙ c.in_ok-here.ensures.cause.passed) c.search_nodes-2.ensures.cause c.in_err-before.was c.from_residual-in_err-before.ensures
 
@@ -94,13 +94,13 @@ pub returns-then-is_some-2-clause-reads : goal.returns-then-is_some-2-clause-rea
 returns-then-is_some-2-clause-reads g c = reads_after g.D.Disk _ _ _ (reads_after g.D.Disk _ _ _ c.search_node.ensures.reads c.search_nodes.ensures.reads) c.search_nodes-2.ensures.reads
 
 pub returns-then-is_some-2-clause-cause : goal.returns-then-is_some-2-clause-cause
-returns-then-is_some-2-clause-cause g c = why_passed g.D.Disk (λ k. IsLive c.args.g.now c.args.committed.now k ⊎ IsLive c.args.g.now c.args.working.now k) _ _ _ (c.in_ok-before.ensures.cause.passed ∙ c.in_ok-after.ensures.cause.passed ∙ c.in_ok-here.ensures.cause.passed)
+returns-then-is_some-2-clause-cause g c = why_passed g.D.Disk (IsLiveUnder c.args.g.now c.args.committed.now c.args.working.now) _ _ _ (c.in_ok-before.ensures.cause.passed ∙ c.in_ok-after.ensures.cause.passed ∙ c.in_ok-here.ensures.cause.passed)
 
 pub returns-clause-reads : goal.returns-clause-reads
 returns-clause-reads g c = reads_after g.D.Disk _ _ _ (reads_after g.D.Disk _ _ _ c.search_node.ensures.reads c.search_nodes.ensures.reads) c.search_nodes-2.ensures.reads
 
 pub returns-clause-cause : goal.returns-clause-cause
-returns-clause-cause g c = why_passed g.D.Disk (λ k. IsLive c.args.g.now c.args.committed.now k ⊎ IsLive c.args.g.now c.args.working.now k) _ _ _ (c.in_ok-before.ensures.cause.passed ∙ c.in_ok-after.ensures.cause.passed ∙ c.in_ok-here.ensures.cause.passed)
+returns-clause-cause g c = why_passed g.D.Disk (IsLiveUnder c.args.g.now c.args.committed.now c.args.working.now) _ _ _ (c.in_ok-before.ensures.cause.passed ∙ c.in_ok-after.ensures.cause.passed ∙ c.in_ok-here.ensures.cause.passed)
 
 pub returns-then-is_some-2-clause-found : goal.returns-then-is_some-2-clause-found
 returns-then-is_some-2-clause-found g c = λ tells.

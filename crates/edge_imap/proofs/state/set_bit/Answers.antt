@@ -1,4 +1,4 @@
-use Rattle.std.proofs.Common.{◌≡◌, ◌≢◌, ◌⊎◌, ℕ, ◌==◌, true, false, List, inl, inr, refl, sym, ap, subst, ◌∙◌}
+use Rattle.std.proofs.Common.{◌≡◌, ◌≢◌, ℕ, ◌==◌, true, false, List, inl, inr, refl, sym, ap, subst, ◌∙◌}
 use Rattle.std.specs.Prelude.{not, if◌then◌else◌, IsTrue, ◌-◌}
 use Rattle.edge_base.specs.layout.Bitmap.{bit_under, live_place}
 use Rattle.edge_base.specs.layout.Bytes.{bit_in, number_at}
@@ -6,7 +6,7 @@ use Rattle.edge_base.specs.layout.Places.{is_inline_of, table_start_of, imap_pla
 use Rattle.edge_cache.specs.Cached.{Cached}
 use Rattle.edge_cache.specs.Calls.{content_in}
 use Rattle.edge_disk.specs.Disk.{Origin}
-use Rattle.edge_imap.specs.Bitmaps.{IsFit, HoldsBit, IsNode, IsTied, bitmaps, node_of, spare_place}
+use Rattle.edge_imap.specs.Bitmaps.{IsFit, HoldsBit, HoldsBitUnder, IsNode, IsTied, bitmaps, node_of, spare_place}
 use Rattle.edge_imap.proofs.BitLaws.{contents_same}
 use Rattle.edge_imap.proofs.CallLaws.{reads_same, reads_after, writes_none, writes_after, why_passed, why_after, shows_on}
 use Rattle.edge_imap.proofs.TieLaws.{on_err, same_flags, not_ok, tie_same, use_changes, has_already, not_self, was_live, tie_set, committed_kept, nodes_kept, nodes_changed, flag_other, node_inside}
@@ -26,7 +26,7 @@ returns-in_err-old-clause-fault g c = on_err c.from_residual.result c.bit_of.ens
 
 pub returns-in_err-old-clause-cause : goal.returns-in_err-old-clause-cause
 returns-in_err-old-clause-cause g c =
-    why_after g.D.Disk (HoldsBit c.args.g.now c.args.committed.now c.args.change.bit) (λ k. HoldsBit c.args.g.now c.args.committed.now c.args.change.bit k ⊎ HoldsBit c.args.g.now c.args.working.now c.args.change.bit k) c.args.cache.now c.args.cache.now c.bit_of.new.cache c.bit_of.result _ c.in_err-old.field-0.0
+    why_after g.D.Disk (HoldsBit c.args.g.now c.args.committed.now c.args.change.bit) (HoldsBitUnder c.args.g.now c.args.committed.now c.args.working.now c.args.change.bit) c.args.cache.now c.args.cache.now c.bit_of.new.cache c.bit_of.result _ c.in_err-old.field-0.0
     (λ k h. inl h) (reads_same g.D.Disk c.args.cache.now) refl c.bit_of.ensures.cause c.in_err-old.was c.from_residual.ensures
 
 pub returns-in_err-old-clause-tied : goal.returns-in_err-old-clause-tied
@@ -49,7 +49,7 @@ returns-in_err-new-clause-fault g c = on_err c.from_residual-in_err-new.result (
 
 pub returns-in_err-new-clause-cause : goal.returns-in_err-new-clause-cause
 returns-in_err-new-clause-cause g c =
-    why_after g.D.Disk (HoldsBit c.args.g.now c.args.working.now c.args.change.bit) (λ k. HoldsBit c.args.g.now c.args.committed.now c.args.change.bit k ⊎ HoldsBit c.args.g.now c.args.working.now c.args.change.bit k) c.args.cache.now c.bit_of.new.cache c.bit_of-2.new.cache c.bit_of-2.result _ c.in_err-new.field-0.0
+    why_after g.D.Disk (HoldsBit c.args.g.now c.args.working.now c.args.change.bit) (HoldsBitUnder c.args.g.now c.args.committed.now c.args.working.now c.args.change.bit) c.args.cache.now c.bit_of.new.cache c.bit_of-2.new.cache c.bit_of-2.result _ c.in_err-new.field-0.0
     (λ k h. inr h) c.bit_of.ensures.reads c.in_ok-old.ensures.cause.passed c.bit_of-2.ensures.cause c.in_err-new.was c.from_residual-in_err-new.ensures
 
 pub returns-in_err-new-clause-tied : goal.returns-in_err-new-clause-tied
@@ -83,7 +83,7 @@ pub returns-then-new-change-clause-inline : goal.returns-then-new-change-clause-
 returns-then-new-change-clause-inline g c = λ inline. ((c.bit_of-2.ensures.inline inline).0 ∙ (c.bit_of.ensures.inline inline).0, refl)
 
 pub returns-then-new-change-clause-cause : goal.returns-then-new-change-clause-cause
-returns-then-new-change-clause-cause g c = why_passed g.D.Disk (λ k. HoldsBit c.args.g.now c.args.committed.now c.args.change.bit k ⊎ HoldsBit c.args.g.now c.args.working.now c.args.change.bit k) _ _ _ (c.in_ok-new.ensures.cause.passed ∙ c.in_ok-old.ensures.cause.passed)
+returns-then-new-change-clause-cause g c = why_passed g.D.Disk (HoldsBitUnder c.args.g.now c.args.committed.now c.args.working.now c.args.change.bit) _ _ _ (c.in_ok-new.ensures.cause.passed ∙ c.in_ok-old.ensures.cause.passed)
 
 pub returns-then-new-change-clause-tied : goal.returns-then-new-change-clause-tied
 returns-then-new-change-clause-tied g c = λ tells t. tie_same _ _ _ ((reads_after g.D.Disk _ _ _ c.bit_of.ensures.reads c.bit_of-2.ensures.reads).contents tells) t
@@ -107,7 +107,7 @@ returns-in_err-turn_bit-clause-fault g c = on_err c.from_residual-in_err-turn_bi
 
 pub returns-in_err-turn_bit-clause-cause : goal.returns-in_err-turn_bit-clause-cause
 returns-in_err-turn_bit-clause-cause g c =
-    why_after g.D.Disk (HoldsBit c.args.g.now c.args.working.now c.args.change.bit) (λ k. HoldsBit c.args.g.now c.args.committed.now c.args.change.bit k ⊎ HoldsBit c.args.g.now c.args.working.now c.args.change.bit k) c.args.cache.now c.bit_of-2.new.cache c.turn_bit.new.cache c.turn_bit.result _ c.in_err-turn_bit.field-0.0
+    why_after g.D.Disk (HoldsBit c.args.g.now c.args.working.now c.args.change.bit) (HoldsBitUnder c.args.g.now c.args.committed.now c.args.working.now c.args.change.bit) c.args.cache.now c.bit_of-2.new.cache c.turn_bit.new.cache c.turn_bit.result _ c.in_err-turn_bit.field-0.0
     (λ k h. inr h) (reads_after g.D.Disk _ _ _ c.bit_of.ensures.reads c.bit_of-2.ensures.reads) (c.in_ok-new.ensures.cause.passed ∙ c.in_ok-old.ensures.cause.passed) c.turn_bit.ensures.cause c.in_err-turn_bit.was c.from_residual-in_err-turn_bit.ensures
 
 pub returns-in_err-turn_bit-clause-tied : goal.returns-in_err-turn_bit-clause-tied
@@ -160,7 +160,7 @@ pub returns-clause-inline : goal.returns-clause-inline
 returns-clause-inline g c = λ inline. ((c.turn_bit.ensures.inline inline).0 ∙ (c.bit_of-2.ensures.inline inline).0 ∙ (c.bit_of.ensures.inline inline).0, refl)
 
 pub returns-clause-cause : goal.returns-clause-cause
-returns-clause-cause g c = why_passed g.D.Disk (λ k. HoldsBit c.args.g.now c.args.committed.now c.args.change.bit k ⊎ HoldsBit c.args.g.now c.args.working.now c.args.change.bit k) _ _ _ (c.in_ok-turn_bit.ensures.cause.passed ∙ c.in_ok-new.ensures.cause.passed ∙ c.in_ok-old.ensures.cause.passed)
+returns-clause-cause g c = why_passed g.D.Disk (HoldsBitUnder c.args.g.now c.args.committed.now c.args.working.now c.args.change.bit) _ _ _ (c.in_ok-turn_bit.ensures.cause.passed ∙ c.in_ok-new.ensures.cause.passed ∙ c.in_ok-old.ensures.cause.passed)
 
 pub returns-clause-tied : goal.returns-clause-tied
 returns-clause-tied g c = λ tells t.

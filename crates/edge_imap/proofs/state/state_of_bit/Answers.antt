@@ -1,14 +1,14 @@
-use Rattle.std.proofs.Common.{◌≡◌, ◌⊎◌, ℕ, List, inl, inr, refl, sym, ap, subst, ◌∙◌}
+use Rattle.std.proofs.Common.{◌≡◌, ℕ, List, inl, inr, refl, sym, ap, subst, ◌∙◌}
 use Rattle.edge_base.specs.layout.Bitmap.{bit_under}
 use Rattle.edge_cache.specs.Calls.{content_in}
 use Rattle.edge_disk.specs.Disk.{Origin}
-use Rattle.edge_imap.specs.Bitmaps.{IsFit, HoldsBit, state_of}
+use Rattle.edge_imap.specs.Bitmaps.{IsFit, HoldsBit, HoldsBitUnder, state_of}
 use Rattle.edge_imap.proofs.CallLaws.{reads_same, reads_after, why_passed, why_after, shows_on}
 use Rattle.edge_imap.proofs.state.state_of_bit.Goals as goal
 
 pub returns-in_err-old-clause-cause : goal.returns-in_err-old-clause-cause
 returns-in_err-old-clause-cause g c =
-    why_after g.D.Disk (HoldsBit c.args.g.now c.args.committed.now c.args.bit) (λ k. HoldsBit c.args.g.now c.args.committed.now c.args.bit k ⊎ HoldsBit c.args.g.now c.args.working.now c.args.bit k) c.args.cache.now c.args.cache.now c.bit_of.new.cache c.bit_of.result _ c.in_err-old.field-0.0
+    why_after g.D.Disk (HoldsBit c.args.g.now c.args.committed.now c.args.bit) (HoldsBitUnder c.args.g.now c.args.committed.now c.args.working.now c.args.bit) c.args.cache.now c.args.cache.now c.bit_of.new.cache c.bit_of.result _ c.in_err-old.field-0.0
     (λ k h. inl h) (reads_same g.D.Disk c.args.cache.now) refl c.bit_of.ensures.cause c.in_err-old.was c.from_residual.ensures
 
 pub bit_of-requires-2-clause-fits : goal.bit_of-requires-2-clause-fits
@@ -19,7 +19,7 @@ returns-in_err-new-clause-reads g c = reads_after g.D.Disk _ _ _ c.bit_of.ensure
 
 pub returns-in_err-new-clause-cause : goal.returns-in_err-new-clause-cause
 returns-in_err-new-clause-cause g c =
-    why_after g.D.Disk (HoldsBit c.args.g.now c.args.working.now c.args.bit) (λ k. HoldsBit c.args.g.now c.args.committed.now c.args.bit k ⊎ HoldsBit c.args.g.now c.args.working.now c.args.bit k) c.args.cache.now c.bit_of.new.cache c.bit_of-2.new.cache c.bit_of-2.result _ c.in_err-new.field-0.0
+    why_after g.D.Disk (HoldsBit c.args.g.now c.args.working.now c.args.bit) (HoldsBitUnder c.args.g.now c.args.committed.now c.args.working.now c.args.bit) c.args.cache.now c.bit_of.new.cache c.bit_of-2.new.cache c.bit_of-2.result _ c.in_err-new.field-0.0
     (λ k h. inr h) c.bit_of.ensures.reads c.in_ok-old.ensures.cause.passed c.bit_of-2.ensures.cause c.in_err-new.was c.from_residual-in_err-new.ensures
 
 pub returns-clause-state : goal.returns-clause-state
@@ -35,4 +35,4 @@ pub returns-clause-reads : goal.returns-clause-reads
 returns-clause-reads g c = reads_after g.D.Disk _ _ _ c.bit_of.ensures.reads c.bit_of-2.ensures.reads
 
 pub returns-clause-cause : goal.returns-clause-cause
-returns-clause-cause g c = why_passed g.D.Disk (λ k. HoldsBit c.args.g.now c.args.committed.now c.args.bit k ⊎ HoldsBit c.args.g.now c.args.working.now c.args.bit k) _ _ _ (c.in_ok-new.ensures.cause.passed ∙ c.in_ok-old.ensures.cause.passed)
+returns-clause-cause g c = why_passed g.D.Disk (HoldsBitUnder c.args.g.now c.args.committed.now c.args.working.now c.args.bit) _ _ _ (c.in_ok-new.ensures.cause.passed ∙ c.in_ok-old.ensures.cause.passed)
