@@ -1,13 +1,14 @@
 -- Nodes that keep their blocks, and data blocks that are there.
-use Rattle.std.proofs.Common.{◌≡◌, ◌≢◌, ℕ, ◌<◌, ◌==◌, ◌&&◌, not, true, false, List, Option, Some, None, refl, sym, ap, ◌∙◌, inl, inr}
+use Rattle.std.proofs.Common.{◌≡◌, ◌≢◌, ◌⊎◌, ℕ, ◌<◌, ◌==◌, ◌&&◌, not, true, false, List, ◌∷◌, Option, Some, None, refl, sym, ap, ◌∙◌, inl, inr}
 use Rattle.std.specs.Prelude.{is_some}
 use Rattle.std.specs.List.{list_any}
-use Rattle.std.proofs.lemmas.Bool.{cases_eq, cases_Bool, eq-eqb}
+use Rattle.std.proofs.lemmas.Bool.{cases_eq, cases_Bool, eq-eqb, or_cases}
 use Rattle.edge_base.specs.declared.form.Form.{Form}
 use Rattle.edge_base.specs.declared.form.Form.TheVariants.{Plain, Indirect, Double}
 use Rattle.edge_base.specs.declared.geometry.Request.{Request}
 use Rattle.edge_base.specs.declared.node.Head.{Head}
-use Rattle.edge_base.specs.tree.Positions.{Position, positions_of_form}
+use Rattle.edge_base.specs.tree.Positions.{Position, has, chain, positions_of, positions_of_form}
+use Rattle.edge_base.proofs.PositionLaws.{has-append}
 use Rattle.edge_store.specs.View.{View, IsView, Block, Inode, whole, broken, content, entries_of_inode, is_owned_by, is_spot, is_used, is_new, is_whole, with_head, with_inode}
 use Rattle.edge_store.specs.Effects.{HeadSet, BytesSet}
 use Rattle.edge_store.specs.Placed.{data_block, block_at}
@@ -16,14 +17,15 @@ use Rattle.edge_store.specs.Frames.{KeepsPointers, IsNoNodeOf}
 use Rattle.edge_store.proofs.FrameLaws.{block_at-pointers}
 use Rattle.edge_store.proofs.ViewLaws.{used_of, unused_zero, with_block_apart, with_inode_here, with_inode_apart}
 use Rattle.edge_moves.specs.Sound.{numbered}
-use Rattle.edge_shape.specs.Shape.{HasShape}
+use Rattle.edge_shape.specs.Shape.{HasShape, before}
 use Rattle.edge_shape.specs.Cut.{IsCut}
 use Rattle.edge_moves.specs.Writable.{IsMadeWritable}
 use Rattle.edge_shape.proofs.ListLaws.{apart_false}
 use Rattle.edge_shape.proofs.LeadLaws.{shape_from_layout}
 use Rattle.edge_shape.proofs.ShapeLaws.{in_range, listed, spot_at, one_place}
 use Rattle.edge_shape.proofs.LeaveLaws.{index_there, index_listed, position_there}
-use Rattle.edge_shape.proofs.RenewLaws.{node_used}
+use Rattle.edge_shape.proofs.MovedLaws.{made_shape}
+use Rattle.edge_shape.proofs.RenewLaws.{used_not_none, node_used}
 use Rattle.edge_count.specs.Frames.{KeepsBlocks, AreApart}
 use Rattle.edge_count.proofs.FreshLaws.{chain_number}
 
@@ -173,8 +175,8 @@ module _ (g : Request) (v w : View) (m : ℕ) (indices : List ℕ) (shape : HasS
 module _ (g : Request) (c v w : View) (n m i : ℕ) (indices others : List ℕ) (other : HasShape g v m others) (view : IsView g w) (apart : AreApart g v n m)
     (away : m ≢ n) where
   apart_keeps : w.inodes m ≡ v.inodes m
-      →
-      ((form : Form) (k : ℕ) → block_at g v (numbered m form k) ≢ 0 → w.blocks (block_at g v (numbered m form k)) ≡ v.blocks (block_at g v (numbered m form k)))
+      → ((form : Form) (k : ℕ) → block_at g v (numbered m form k) ≢ 0
+      → w.blocks (block_at g v (numbered m form k)) ≡ v.blocks (block_at g v (numbered m form k)))
       → KeepsBlocks g v w m × HasShape g w m others
   apart_keeps inode blocks = (
     keeps_blocks g v w m others other view (ap entries_of_inode inode) (ap is_whole inode ∙ other.inode) (λ form k node there. blocks form k there) used,
@@ -207,3 +209,47 @@ module _ (g : Request) (c v w : View) (n m i : ℕ) (indices others : List ℕ) 
 
     pub cut_keeps : KeepsBlocks g v w m × HasShape g w m others
     cut_keeps = apart_keeps (cut.inodes m away) cut_blocks
+
+-- ---- the two nodes stay apart
+
+module _ (g : Request) (v w : View) (n m : ℕ) (rest others : List ℕ) (shape : HasShape g w n rest) (other : HasShape g v m others) (apart : AreApart g v n m)
+    (keeps : KeepsBlocks g v w m × HasShape g w m others)
+    (came : (form : Form) (k : ℕ) → has (positions_of g n rest) (numbered n form k) ≡ true
+    → (block_at g w (numbered n form k) ≡ block_at g v (numbered n form k)) ⊎ (v.blocks (block_at g w (numbered n form k)) ≡ None)) where
+  pub still_apart : AreApart g w n m
+  still_apart form f k l some same =
+      let there : block_at g w (numbered m f l) ≢ 0 = λ none. some (same ∙ none) in
+      let is = keeps.0.places f l (in_range g w m others keeps.1 f l there) in
+      elim (came form k (listed g w n rest shape form k some)) [
+        | inl still ↦ apart form f k l (λ none. some (still ∙ none)) (sym still ∙ same ∙ is)
+        | inr free ↦
+            used_not_none (v.blocks (block_at g v (numbered m f l))) (node_used g v m others other f l (λ none. there (is ∙ none)))
+            (ap v.blocks (sym (same ∙ is)) ∙ free)
+      ]
+
+module _ (g : Request) (c v w : View) (n m i : ℕ) (indices others : List ℕ) (shape : HasShape g v n indices) (other : HasShape g v m others) (view : IsView g w)
+    (apart : AreApart g v n m) (away : m ≢ n) where
+  pub writable_apart : IsMadeWritable g c v w n i indices → AreApart g w n m
+  writable_apart made =
+      still_apart g v w n m (i ∷ indices) others (made_shape g c v w n i indices shape view made) other apart
+      (writable_keeps g c v w n m i indices others other view apart away made) came
+    where
+      came : (form : Form) (k : ℕ) → has (positions_of g n (i ∷ indices)) (numbered n form k) ≡ true
+          → (block_at g w (numbered n form k) ≡ block_at g v (numbered n form k)) ⊎ (v.blocks (block_at g w (numbered n form k)) ≡ None)
+      came form k h = elim (or_cases (has (chain g n i) (numbered n form k)) (has (positions_of g n indices) (numbered n form k))
+          (sym (has-append (chain g n i) (positions_of g n indices) (numbered n form k)) ∙ h)) [
+            | inl on ↦ on_chain on
+            | inr old ↦ elim (cases_Bool (has (chain g n i) (numbered n form k))) [
+              | inl on ↦ on_chain on
+              | inr off ↦ inl (made.stays (numbered n form k) old off)
+            ]
+          ]
+        where
+          on_chain : has (chain g n i) (numbered n form k) ≡ true
+              → (block_at g w (numbered n form k) ≡ block_at g v (numbered n form k)) ⊎ (v.blocks (block_at g w (numbered n form k)) ≡ None)
+          on_chain on = elim (made.came (numbered n form k) on) [ inl same ↦ inl same | inr moved ↦ inr moved.fresh ]
+
+  pub cut_apart : IsCut g c v w n i indices → AreApart g w n m
+  cut_apart cut =
+      still_apart g v w n m (before i indices) others cut.shape other apart (cut_keeps g c v w n m i indices others other view apart away cut)
+      (λ form k h. elim (cut.came form k h) [ inl same ↦ inl same | inr moved ↦ inr moved.fresh ])

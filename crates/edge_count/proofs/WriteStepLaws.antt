@@ -17,8 +17,8 @@ use Rattle.edge_store.specs.Fresh.{is_dirty, has_after, is_there_after, fresh_co
 use Rattle.edge_store.proofs.ViewLaws.{unused_zero}
 use Rattle.edge_moves.specs.Sound.{numbered}
 use Rattle.edge_moves.specs.Writable.{IsMadeWritable, fresh_on_chain}
-use Rattle.edge_moves.proofs.SpentLaws.{whole_by_head}
 use Rattle.edge_shape.specs.Shape.{HasShape}
+use Rattle.edge_shape.proofs.MovedLaws.{made_shape}
 use Rattle.edge_shape.proofs.ListLaws.{is_false}
 use Rattle.edge_count.specs.Frames.{KeepsBlocks, AreOfOrKept}
 use Rattle.edge_count.proofs.WriteLaws.{one_chain}
@@ -70,7 +70,7 @@ module _ (g : Request) (c v w : View) (n i : ℕ) (indices : List ℕ) (shape : 
 
   -- the node afterwards
   shape_w : HasShape g w n (i ∷ indices)
-  shape_w = record { geometry = shape.geometry; view = view; inode = whole_by_head (v.inodes n) (w.inodes n) made.head shape.inode; places = made.places; once = made.once }
+  shape_w = made_shape g c v w n i indices shape view made
 
   -- ---- which data blocks are there after the whole change
 

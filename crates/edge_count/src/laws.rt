@@ -176,7 +176,8 @@ pub fn a_change_that_fits_has_room_for_its_steps()
         → fresh_count g c w writes removes + reserve ≤ free_now g c w }
 {}
 
-/// A step at one node leaves another of some shape as it was, if they have no block in common.
+/// A step at one node leaves another of some shape as it was, if they have no block in common, and
+/// then they have none in common afterwards.
 pub fn a_step_keeps_other_nodes()
     ensures write { (g : Request) (c v w : View) (n m i : ℕ) (indices others : List ℕ)
         → HasShape g v m others → IsView g w → AreApart g v n m → m ≢ n
@@ -184,16 +185,22 @@ pub fn a_step_keeps_other_nodes()
     ensures write_shape { (g : Request) (c v w : View) (n m i : ℕ) (indices others : List ℕ)
         → HasShape g v m others → IsView g w → AreApart g v n m → m ≢ n
         → IsMadeWritable g c v w n i indices → HasShape g w m others }
+    ensures write_apart { (g : Request) (c v w : View) (n m i : ℕ) (indices others : List ℕ)
+        → HasShape g v n indices → HasShape g v m others → IsView g w → AreApart g v n m → m ≢ n
+        → IsMadeWritable g c v w n i indices → AreApart g w n m }
     ensures cut { (g : Request) (c v w : View) (n m i : ℕ) (indices others : List ℕ)
         → HasShape g v m others → AreApart g v n m → m ≢ n
         → IsCut g c v w n i indices → KeepsBlocks g v w m }
     ensures cut_shape { (g : Request) (c v w : View) (n m i : ℕ) (indices others : List ℕ)
         → HasShape g v m others → AreApart g v n m → m ≢ n
         → IsCut g c v w n i indices → HasShape g w m others }
+    ensures cut_apart { (g : Request) (c v w : View) (n m i : ℕ) (indices others : List ℕ)
+        → HasShape g v n indices → HasShape g v m others → AreApart g v n m → m ≢ n
+        → IsCut g c v w n i indices → AreApart g w n m }
 {}
 
-/// A step that sets no pointer of a node leaves it as it was: other bytes in a block that is none of
-/// its pointer nodes, another head, and another number's inode.
+/// A step that sets no pointer of a node leaves it as it was: other bytes in a block that is none
+/// of its pointer nodes, another head, and another number's inode.
 pub fn a_step_that_sets_no_pointer_keeps_nodes()
     ensures bytes { (g : Request) (v w : View) (m b at : ℕ) (list indices : List ℕ)
         → HasShape g v m indices → IsView g w → IsNoNodeOf g v m b → BytesSet v w b at list

@@ -1,5 +1,5 @@
 -- A node of which one block took another's place keeps its shape.
-use Rattle.std.proofs.Common.{◌≡◌, ◌≢◌, ℕ, ◌<◌, ◌≤◌, Bool, true, false, List, refl, sym, ap, ◌∙◌, arith, inl, inr}
+use Rattle.std.proofs.Common.{◌≡◌, ◌≢◌, ℕ, ◌<◌, ◌≤◌, Bool, true, false, List, ◌∷◌, refl, sym, ap, ◌∙◌, arith, inl, inr}
 use Rattle.std.proofs.lemmas.Bool.{cases_eq, cases_lt, cases_Bool, cond-true, cond-false}
 use Rattle.edge_base.specs.declared.form.Form.{Form}
 use Rattle.edge_base.specs.declared.form.Form.TheVariants.{Plain}
@@ -14,6 +14,7 @@ use Rattle.edge_store.proofs.ViewLaws.{entries_of_whole}
 use Rattle.edge_moves.specs.Sound.{numbered}
 use Rattle.edge_moves.specs.Relinks.{number_of_entry, number_under}
 use Rattle.edge_moves.specs.Renewal.{EntryMoved, PointerMoved}
+use Rattle.edge_moves.specs.Writable.{IsMadeWritable}
 use Rattle.edge_moves.proofs.FactLaws.{entry_step, pointer_step}
 use Rattle.edge_moves.proofs.RangeLaws.{there_in_range}
 use Rattle.edge_moves.proofs.SelfLaws.{self_relinks}
@@ -27,6 +28,20 @@ use Rattle.edge_shape.proofs.SpotLaws.{used_spot}
 use Rattle.edge_shape.proofs.LeadLaws.{shape_from_layout}
 use Rattle.edge_shape.proofs.ShapeLaws.{entry_there, in_range, listed, spot_at, one_place}
 use Rattle.edge_shape.proofs.LeaveLaws.{position_there}
+
+-- ---- a data block made writable
+
+pub made_shape : (g : Request) (c v w : View) (n i : ℕ) (indices : List ℕ) → HasShape g v n indices → IsView g w
+    → IsMadeWritable g c v w n i indices → HasShape g w n (i ∷ indices)
+made_shape g c v w n i indices shape view made = record {
+  geometry = shape.geometry;
+  view = view;
+  inode = whole_by_head (v.inodes n) (w.inodes n) made.head shape.inode;
+  places = made.places;
+  once = made.once;
+}
+
+-- ---- a block that moved
 
 -- Block b took the place of the block at number m of a form.
 module _ (g : Request) (c v w : View) (n : ℕ) (indices : List ℕ) (shape : HasShape g v n indices) (f : Form) (m b top : ℕ)

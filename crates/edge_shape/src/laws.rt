@@ -1,6 +1,6 @@
 //! Laws over the definitions of `specs/`: functions without effects.
 
-ghost use Rattle.std.specs.Prelude.{◌≡◌, ◌≢◌, ◌<◌, ◌≤◌, ℕ, ◌+◌, ◌&&◌, Bool, true, false, nat_le, nat_lt, List};
+ghost use Rattle.std.specs.Prelude.{◌≡◌, ◌≢◌, ◌<◌, ◌≤◌, ℕ, ◌+◌, ◌&&◌, Bool, true, false, nat_le, nat_lt, List, ◌∷◌};
 ghost use Rattle.std.specs.List.{list_any};
 ghost use Rattle.edge_base.specs.declared.form.Form.{Form};
 ghost use Rattle.edge_base.specs.declared.form.Form.TheVariants.{Plain, Indirect, Double};
@@ -12,6 +12,7 @@ ghost use Rattle.edge_store.specs.Placed.{entry_at, pointer_at, double_block, in
 ghost use Rattle.edge_store.specs.View.{View, IsView, is_whole};
 ghost use Rattle.edge_moves.specs.Relinks.{Relinks};
 ghost use Rattle.edge_moves.specs.Renewal.{EntryMoved, PointerMoved};
+ghost use Rattle.edge_moves.specs.Writable.{IsMadeWritable};
 ghost use Rattle.edge_moves.specs.Sound.{numbered};
 ghost use Rattle.edge_shape.specs.declared.cut.Cut.{Cut};
 ghost use Rattle.edge_shape.specs.declared.cut.Cut.TheVariants.{Whole};
@@ -103,6 +104,7 @@ pub fn cut_pointers_leave_the_other_indices()
 {}
 
 /// A node keeps its shape where the block of an entry moves, or that in a place of a pointer node.
+/// With a data block made writable it has the shape of one with that data block besides.
 pub fn moved_blocks_keep_the_shape()
     ensures entry { (g : Request) (c v w : View) (n e b : ℕ) (indices : List ℕ)
         → HasShape g v n indices → entry_at v n e ≢ 0
@@ -113,6 +115,9 @@ pub fn moved_blocks_keep_the_shape()
         → pointer_at v form (block_at g v (numbered n form m)) place ≢ 0
         → PointerMoved g c v w form n (block_at g v (numbered n form m)) place b
         → IsView g w → HasShape g w n indices }
+    ensures writable { (g : Request) (c v w : View) (n i : ℕ) (indices : List ℕ)
+        → HasShape g v n indices → IsView g w → IsMadeWritable g c v w n i indices
+        → HasShape g w n (i ∷ indices) }
 {}
 
 /// What hangs under a position of a node of some shape is sound, and so is all that hangs under the

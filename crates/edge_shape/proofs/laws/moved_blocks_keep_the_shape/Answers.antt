@@ -1,4 +1,4 @@
-use Rattle.edge_shape.proofs.MovedLaws.{entry_moved, pointer_moved}
+use Rattle.edge_shape.proofs.MovedLaws.{made_shape, entry_moved, pointer_moved}
 use Rattle.edge_shape.proofs.laws.moved_blocks_keep_the_shape.Goals as goal
 
 pub returns-clause-entry : goal.returns-clause-entry
@@ -6,3 +6,6 @@ returns-clause-entry c g committed v w n e b indices shape some was view = entry
 
 pub returns-clause-pointer : goal.returns-clause-pointer
 returns-clause-pointer c g committed v w n form m place b indices shape node low there some was view = pointer_moved g committed v w n indices shape view form m place b node low there some was
+
+pub returns-clause-writable : goal.returns-clause-writable
+returns-clause-writable c = made_shape
