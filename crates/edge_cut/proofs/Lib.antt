@@ -1,0 +1,13 @@
+pub mod GoLaws
+pub mod DropLaws
+pub mod LastLaws
+pub mod SoundLaws
+pub mod SameLaws
+pub mod PlaceLaws
+pub mod EntryLaws
+pub mod LoopLaws
+pub mod HollowLaws
+pub mod BelowLaws
+pub mod SearchLaws
+pub mod ThroughLaws
+pub mod SizeLaws

@@ -1,0 +1,42 @@
+use Rattle.std.proofs.Common.{◌≡◌, ◌≢◌, true, false, sym, ap, ◌∙◌, arith, inl, inr}
+use Rattle.std.proofs.lemmas.Bool.{cases_lt}
+use Rattle.edge_base.specs.layout.Places.{pointers_of}
+use Rattle.edge_store.specs.State.{Told}
+use Rattle.edge_store.specs.View.{is_spot}
+use Rattle.edge_moves.proofs.FactLaws.{full_node}
+use Rattle.edge_moves.proofs.SlotLaws.{some_pointers_fit}
+use Rattle.edge_moves.proofs.StepLaws.{not_zero}
+use Rattle.edge_shape.specs.Shape.{entries_at}
+use Rattle.edge_shape.specs.Where.{some_in}
+use Rattle.edge_cut.proofs.SearchLaws.{none_in_sides}
+use Rattle.edge_cut.proofs.through.sides_of.Goals as goal
+
+pub hollow-requires-clause-hollow : goal.hollow-requires-clause-hollow
+hollow-requires-clause-hollow g c told =
+    let old = g.S.Store.state c.args.s.now in
+    let mid = g.S.Store.state c.has_some.new.s in
+    let new = g.S.Store.state c.has_some-2.new.s in
+    let at = c.args.at in
+    let first = c.in_ok-kept.ensures in
+    let second = c.in_ok-cut.ensures in
+    let origin : new.origin ≡ old.origin = second.called.origin ∙ first.called.origin in
+    let told_mid : Told mid = ap (λ o. o.tells) (sym second.called.origin) ∙ told in
+    let told_old : Told old = ap (λ o. o.tells) (sym first.called.origin) ∙ told_mid in
+    let some : at.block ≢ 0 = not_zero old.origin.request at.block c.requires.block in
+    let positive = some_pointers_fit old.origin.request (g.met.S.Store.is_geometry c.args.s.now) in
+    let end : c.pointers-end.result ≡ pointers_of old.origin.request = c.pointers-end.ensures ∙ ap (λ o. pointers_of o.request) first.called.origin in
+    let spot : is_spot old.working at.form at.owner at.block ≡ true = elim (cases_lt 0 c.args.place) [
+      | inl low ↦ first.spot low told_old some
+      | inr none ↦ rw (← first.reads.working) (second.spot (omega (arith, none, positive, end)) told_mid some)
+    ] in
+    let view = g.met.S.Store.working_is_view c.args.s.now told_old c.requires.live in
+    let long = full_node old.origin.request old.working at.form at.owner at.block c.requires.form view spot in
+    let kept : some_in (entries_at old.working at.form at.block) 0 c.args.place ≡ false = sym (first.some told_old) ∙ c.if-not-kept.true in
+    let cut : some_in (entries_at old.working at.form at.block) c.args.place (pointers_of old.origin.request) ≡ false = rw (← end, ← first.reads.working) (sym (second.some told_mid) ∙ c.if-not-cut.true) in
+    rw (origin, second.reads.working, first.reads.working) (record {
+      inode = c.requires.readable told_old;
+      is_node = c.requires.form;
+      linked = c.requires.linked told_old some;
+      spot = spot;
+      none = none_in_sides (entries_at old.working at.form at.block) (pointers_of old.origin.request) c.args.place long kept cut;
+    })

@@ -1,0 +1,10 @@
+//! Data blocks of a node cut off from an index on, over any store.
+#![tactic(auto)]
+
+mod cost;
+mod drop;
+mod entries;
+mod places;
+mod through;
+
+pub use cost::cut_cost;
