@@ -1,9 +1,12 @@
-//! A store over a disk, which takes transaction points. So far the phases of a point.
+//! A store over a disk, which takes transaction points. So far the phases of a point, and a point of
+//! a cache with its bitmap.
 #![tactic(auto)]
 
+mod laws;
 mod phase;
 
-pub use phase::take_point;
+pub use laws::a_tied_bitmap_may_follow;
+pub use phase::{commit, take_point};
 
 #[cfg(test)]
 mod tests;
