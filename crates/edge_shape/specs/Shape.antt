@@ -56,7 +56,3 @@ HasBetween indices from upto = (x : ℕ) × (list_any (λ k. k == x) indices ≡
 -- each of them is before i exactly where it is before k
 abbrev pub SameBefore : List ℕ → ℕ → ℕ → Type 0
 SameBefore indices i k = (x : ℕ) → list_any (λ y. y == x) indices ≡ true → nat_lt x i ≡ nat_lt x k
-
--- they have the same members
-abbrev pub SameMembers : List ℕ → List ℕ → Type 0
-SameMembers xs ys = (x : ℕ) → list_any (λ k. k == x) xs ≡ list_any (λ k. k == x) ys

@@ -8,7 +8,8 @@ ghost use Rattle.edge_base.specs.declared.geometry.Request.{Request};
 ghost use Rattle.edge_base.specs.declared.way.Way.{Way};
 ghost use Rattle.edge_base.specs.layout.Places.{IsGeometry, IsWithinNodes, entries_of, pointers_of, max_blocks_of, way_of};
 ghost use Rattle.edge_base.specs.tree.Chains.{is_on_chain};
-ghost use Rattle.edge_store.specs.Placed.{entry_at, pointer_at, double_block, indirect_block, block_at, HasPlaces, IsOnce, IsShaped};
+ghost use Rattle.edge_store.specs.Changed.{SameMembers};
+ghost use Rattle.edge_store.specs.Placed.{entry_at, pointer_at, double_block, indirect_block, block_at, IsShaped};
 ghost use Rattle.edge_store.specs.View.{View, IsView, is_whole};
 ghost use Rattle.edge_moves.specs.Relinks.{Relinks};
 ghost use Rattle.edge_moves.specs.Renewal.{EntryMoved, PointerMoved};
@@ -19,7 +20,7 @@ ghost use Rattle.edge_shape.specs.declared.cut.Cut.TheVariants.{Whole};
 ghost use Rattle.edge_shape.specs.Cut.{is_split, IsCut};
 ghost use Rattle.edge_shape.specs.Cutting.{CutPlaces, CutEntries};
 ghost use Rattle.edge_shape.specs.Gone.{Pointers, gone_data, left, Unlinks, Leaves, KeepsSpots, indirect_places, double_places, entry_places};
-ghost use Rattle.edge_shape.specs.Shape.{HasShape, IsLayout, data_under, before, outside, HasBetween, SameBefore, SameMembers};
+ghost use Rattle.edge_shape.specs.Shape.{HasShape, IsLayout, data_under, before, outside, HasBetween, SameBefore};
 ghost use Rattle.edge_shape.specs.Steps.{Steps};
 ghost use Rattle.edge_shape.specs.Trees.{IsSoundTree, IsSoundInode};
 ghost use Rattle.edge_shape.specs.Trimmed.{Trims};
@@ -39,11 +40,7 @@ pub fn a_layout_makes_a_shape()
 
 /// The shape of a node depends on which data blocks it has, and not on how they are listed.
 pub fn a_shape_is_of_members_alone()
-    ensures places { (g : Request) (v : View) (n : ℕ) (xs ys : List ℕ)
-        → SameMembers xs ys → HasPlaces g v n xs → HasPlaces g v n ys }
-    ensures once { (g : Request) (v : View) (n : ℕ) (xs ys : List ℕ)
-        → SameMembers xs ys → IsOnce g v n xs → IsOnce g v n ys }
-    ensures shape { (g : Request) (v : View) (n : ℕ) (xs ys : List ℕ)
+    ensures { (g : Request) (v : View) (n : ℕ) (xs ys : List ℕ)
         → SameMembers xs ys → HasShape g v n xs → HasShape g v n ys }
 {}
 
