@@ -1,9 +1,9 @@
 use crate::image::Image;
 use crate::orders::{order, permitted, push_fault};
 use crate::row::Row;
-use crate::text::push_escaped;
 use anyhow::{Context, Result};
 use edge_disk::{Disk, MemoryDisk};
+use edge_statement::push_escaped;
 use std::alloc::Global;
 use std::collections::BTreeMap;
 

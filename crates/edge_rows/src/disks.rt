@@ -2,9 +2,9 @@ use crate::image::Image;
 use crate::nodes::is_block_size;
 use crate::orders::{memory_disk, permitted, sure_disk};
 use crate::row::Row;
-use crate::text::byte;
 use anyhow::{Context, Result, ensure};
 use edge_disk::{Disk, MemoryDisk};
+use edge_statement::byte;
 use std::alloc::Global;
 
 /// Makes calls of a disk over an image that fails where the row says so, and tells after each how many

@@ -7,11 +7,11 @@ ghost use Rattle.edge_words.specs.Words.{words_of};
 
 use crate::pieces::{PieceSink, PieceSource};
 use crate::row::Row;
-use crate::text::{push_escaped, push_lines};
 use anyhow::{Result, ensure};
 use edge_app::{Report, edge, fault_line};
 use edge_disk::{Disk, MemoryDisk, SureDisk};
 use edge_io::{Clock, MemoryClock, MemorySink, MemorySource};
+use edge_statement::{push_escaped, push_lines};
 use edge_words::need;
 use std::alloc::{AllocError, Global};
 

@@ -1,6 +1,6 @@
-use crate::text::number32;
 use anyhow::Result;
-use edge_base::{DamageKind, Geometry, Refusal, Request};
+use edge_base::{Geometry, Request};
+use edge_statement::number32;
 use edge_words::{need, read_words};
 
 /// Appends the order that words spell, and what has to be attached for them.
@@ -69,45 +69,3 @@ fn push_places(out: &mut String, g: &Geometry) -> Result<()> {
     )?;
     Ok(())
 }
-
-/// Appends the numbers that are printed of refusals and of kinds of damage.
-pub fn push_numbers(out: &mut String) -> Result<()> {
-    for refusal in REFUSALS {
-        writeln!(out, "  {refusal:?} {}", refusal as u8)?;
-    }
-    for kind in KINDS {
-        writeln!(out, "  {kind:?} {}", kind as u8)?;
-    }
-    Ok(())
-}
-
-const REFUSALS: [Refusal; 15] = [
-    Refusal::NoEntry,
-    Refusal::BadDescriptor,
-    Refusal::Busy,
-    Refusal::Exists,
-    Refusal::CrossVolume,
-    Refusal::NotDir,
-    Refusal::IsDir,
-    Refusal::Invalid,
-    Refusal::NoInodes,
-    Refusal::TooManyOpen,
-    Refusal::TooBig,
-    Refusal::NoSpace,
-    Refusal::TooManyLinks,
-    Refusal::NameTooLong,
-    Refusal::NotEmpty,
-];
-
-const KINDS: [DamageKind; 10] = [
-    DamageKind::WrongSignature,
-    DamageKind::WrongWord,
-    DamageKind::WrongField,
-    DamageKind::WrongOwner,
-    DamageKind::WrongPointer,
-    DamageKind::NotUsed,
-    DamageKind::TwoPlaces,
-    DamageKind::WrongSlot,
-    DamageKind::WrongShape,
-    DamageKind::Tangled,
-];

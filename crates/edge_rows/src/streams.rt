@@ -1,9 +1,10 @@
+use crate::orders::clock_of;
 use crate::row::Row;
-use crate::text::{number, push_escaped, push_lines, unescaped, word};
 use anyhow::{Result, ensure};
 use edge_io::{
     Clock, Folder, FolderItem, ItemKind, MemoryFolder, MemorySink, MemorySource, Sink, Source,
 };
+use edge_statement::{number, push_escaped, push_lines, unescaped, word};
 use std::alloc::Global;
 
 /// Reads from a source of the script with room for so many bytes at each call, and appends what each gives.
@@ -35,7 +36,8 @@ pub fn push_sink(alloc: Global, out: &mut String, row: &Row, words: &[&str]) -> 
 }
 
 /// Appends as many moments as are asked for.
-pub fn push_clock<C: Clock>(out: &mut String, clock: &mut C, count: usize) -> Result<()> {
+pub fn push_clock(alloc: Global, out: &mut String, row: &Row, count: usize) -> Result<()> {
+    let mut clock = clock_of(alloc, &row.moments)?;
     write!(out, " ")?;
     for _ in 0..count {
         write!(out, " {}", clock.now())?;
