@@ -1,5 +1,5 @@
 -- A cut makes as many positions dirty as it needs blocks.
-use Rattle.std.proofs.Common.{◌≡◌, ℕ, ◌+◌, ◌-◌, ◌&&◌, not, Bool, true, false, cond, ltb, leb, List, [], refl, sym, ap, ◌∙◌, arith}
+use Rattle.std.proofs.Common.{◌≡◌, ◌≢◌, ℕ, ◌+◌, ◌-◌, ◌==◌, ◌&&◌, ◌||◌, not, Bool, true, false, cond, ltb, leb, List, [], refl, sym, ap, ◌∙◌, arith}
 use Rattle.std.specs.Prelude.{slice_index}
 use Rattle.std.specs.List.{filter, count_by, range_with_len}
 use Rattle.std.proofs.lemmas.Bool.{and_parts}
@@ -12,29 +12,46 @@ use Rattle.edge_base.proofs.PositionLaws.{has-filter, count_of-from_has}
 use Rattle.edge_store.specs.View.{View}
 use Rattle.edge_store.specs.Placed.{entry_at, double_block, indirect_block}
 use Rattle.edge_store.specs.Fresh.{is_dirty, is_there_after, fresh_positions, fresh_count}
+use Rattle.edge_moves.specs.Relinks.{number_under}
+use Rattle.edge_moves.specs.Sound.{numbered}
+use Rattle.edge_moves.specs.Renewal.{cost}
 use Rattle.edge_shape.specs.declared.cut.Cut.{Cut}
 use Rattle.edge_shape.specs.declared.cut.Cut.TheVariants.{Whole, Node, Top, Both}
-use Rattle.edge_shape.specs.Shape.{HasShape, at, entries_at, indirect_in}
-use Rattle.edge_shape.specs.Where.{cost, cut_at, cut_need, need_of, GoesThrough}
+use Rattle.edge_shape.specs.Shape.{HasShape, entries_at}
+use Rattle.edge_shape.specs.Where.{is_through, cut_at, cut_need, need_of, GoesThrough}
 use Rattle.edge_shape.proofs.SpotLaws.{pointer_there}
 use Rattle.edge_shape.proofs.ShapeLaws.{indirect_down, indirect_pointer}
 use Rattle.edge_shape.proofs.LeftLaws.{in_node}
 use Rattle.edge_shape.proofs.OwnLaws.{single_entry, double_entry}
 use Rattle.edge_shape.proofs.WhereLaws.{Finds, finds}
+use Rattle.edge_shape.proofs.SplitLaws.{split_by_cut, plain_split}
 use Rattle.edge_count.specs.Cuts.{removed, first_through, many_through}
 use Rattle.edge_count.specs.Runs.{IsRanges}
 use Rattle.edge_count.proofs.RunLaws.{count_of-forms}
 use Rattle.edge_count.proofs.TouchLaws.{touched_form, touched_plain, touched_number, there_form}
-use Rattle.edge_count.proofs.SplitLaws.{split_by_cut}
 
 none : (m : ℕ) → false ≡ (leb 0 m && ltb m (0 + 0))
 none m = grind (arith, nat_tests)
 
-no_data : (g : Request) (cut : Cut) (m : ℕ) → false ≡ (leb (first_through g cut Plain) m && ltb m (first_through g cut Plain + many_through cut Plain))
-no_data g (Whole entry) m = none m
-no_data g (Node entry place) m = none m
-no_data g (Top entry place) m = none m
-no_data g (Both entry outer place) m = none m
+only : (m l : ℕ) → (m == l) ≡ (leb l m && ltb m (l + 1))
+only m l = grind (arith, nat_tests)
+
+-- the pointer nodes that a cut goes through, as ranges of numbers
+through_range : (g : Request) (cut : Cut) (form : Form) (m : ℕ) → is_through g cut form m ≡ (leb (first_through g cut form) m && ltb m (first_through g cut form + many_through cut form))
+through_range g (Whole entry) form m = none m
+through_range g (Node entry place) Plain m = none m
+through_range g (Node entry place) Indirect m = only m (entry - g.direct)
+through_range g (Node entry place) Double m = none m
+through_range g (Top entry place) Plain m = none m
+through_range g (Top entry place) Indirect m = none m
+through_range g (Top entry place) Double m = only m (entry - g.direct - g.indirect)
+through_range g (Both entry outer place) Plain m = none m
+through_range g (Both entry outer place) Indirect m = only m (number_under g Double (entry - g.direct - g.indirect) outer)
+through_range g (Both entry outer place) Double m = or_none (m == entry - g.direct - g.indirect) ∙ only m (entry - g.direct - g.indirect)
+  where
+    or_none : (t : Bool) → (t || false) ≡ t
+    or_none true = refl
+    or_none false = refl
 
 module _ (g : Request) (c v : View) (n i : ℕ) (indices : List ℕ) (shape : HasShape g v n indices) where
   abbrev cut : Cut
@@ -56,20 +73,23 @@ module _ (g : Request) (c v : View) (n i : ℕ) (indices : List ℕ) (shape : Ha
   fall_ranges : IsRanges fall n (first_through g cut) (many_through cut)
   fall_ranges = record {
     number = λ q h. touched_number g c v n i indices shape q (and_parts (has above q) _ (sym (has-filter (λ r. is_there_after g c v [] gone r) above q) ∙ h)).0;
-    range = λ form m. has-filter (λ r. is_there_after g c v [] gone r) above (at n form m) ∙ by form m;
+    range = λ form m. has-filter (λ r. is_there_after g c v [] gone r) above (numbered n form m) ∙ by form m;
   }
     where
-      by : (form : Form) (m : ℕ) → (has above (at n form m) && is_there_after g c v [] gone (at n form m)) ≡ (leb (first_through g cut form) m && ltb m (first_through g cut form + many_through cut form))
-      by Plain m = (λ t. touched_plain g c v n i indices shape m t && is_there_after g c v [] gone (at n Plain m)) ∙ no_data g cut m
-      by Indirect m = (λ t. touched_form g c v n i indices shape Indirect m (λ (e : Indirect ≡ Plain). cc) t && there_form g c v n i indices shape Indirect m t)
-          ∙ split_by_cut g v n i indices shape cut found.goes_through found.takes found.same Indirect m (λ (e : Indirect ≡ Plain). cc)
-      by Double m = (λ t. touched_form g c v n i indices shape Double m (λ (e : Double ≡ Plain). cc) t && there_form g c v n i indices shape Double m t)
-          ∙ split_by_cut g v n i indices shape cut found.goes_through found.takes found.same Double m (λ (e : Double ≡ Plain). cc)
+      touched_split : (form : Form) (m : ℕ) → form ≢ Plain → (has above (numbered n form m) && is_there_after g c v [] gone (numbered n form m)) ≡ is_through g cut form m
+      touched_split form m node = (λ t. touched_form g c v n i indices shape form m node t && there_form g c v n i indices shape form m t)
+          ∙ split_by_cut g v n i indices shape cut found.goes_through found.takes found.same form m
+
+      by : (form : Form) (m : ℕ) → (has above (numbered n form m) && is_there_after g c v [] gone (numbered n form m)) ≡ (leb (first_through g cut form) m && ltb m (first_through g cut form + many_through cut form))
+      by Plain m = (λ t. touched_plain g c v n i indices shape m t && is_there_after g c v [] gone (numbered n Plain m))
+          ∙ sym (sym (split_by_cut g v n i indices shape cut found.goes_through found.takes found.same Plain m) ∙ plain_split g v n i indices shape m) ∙ through_range g cut Plain m
+      by Indirect m = touched_split Indirect m (λ (e : Indirect ≡ Plain). cc) ∙ through_range g cut Indirect m
+      by Double m = touched_split Double m (λ (e : Double ≡ Plain). cc) ∙ through_range g cut Double m
 
   -- ---- the sum over the forms
 
   abbrev of_form : Cut → Form → ℕ
-  of_form k form = count_by (λ m. not (is_dirty g c v (at n form m))) (range_with_len (first_through g k form) (many_through k form))
+  of_form k form = count_by (λ m. not (is_dirty g c v (numbered n form m))) (range_with_len (first_through g k form) (many_through k form))
 
   one_indirect : (t : Bool) → 0 + (0 + cond (not t) 1 0) + 0 ≡ cond t 0 1
   one_indirect true = refl
@@ -86,19 +106,19 @@ module _ (g : Request) (c v : View) (n i : ℕ) (indices : List ℕ) (shape : Ha
   two false false = refl
 
   pub inner_block : (entry outer place : ℕ) → GoesThrough g indices (Both entry outer place)
-      → indirect_block g v n (indirect_in g (entry - g.direct - g.indirect) outer) ≡ slice_index (entries_at v Double (entry_at v n entry)) outer
+      → indirect_block g v n (number_under g Double (entry - g.direct - g.indirect) outer) ≡ slice_index (entries_at v Double (entry_at v n entry)) outer
   inner_block entry outer place t =
       let d : ℕ = entry - g.direct - g.indirect in
-      let node = (in_node g v n indices shape (indirect_in g d outer) 0 place t.2 t.3).3 in
+      let node = (in_node g v n indices shape (number_under g Double d outer) 0 place t.2 t.3).3 in
       let there = pointer_there v Double (double_block g v n d) outer (λ zero_p. node (indirect_down g v n indices shape d outer t.1 ∙ zero_p)) in
       sym (indirect_pointer g v n indices shape d there outer t.1) ∙ ap (λ (b : ℕ). slice_index (entries_at v Double b) outer) (double_entry g v n entry t.0).1
 
   sum : (k : Cut) → GoesThrough g indices k → of_form k Plain + of_form k Indirect + of_form k Double ≡ need_of c v n k
   sum (Whole entry) t = refl
-  sum (Node entry place) t = one_indirect (is_dirty g c v (at n Indirect (entry - g.direct))) ∙ ap (cost c v) (single_entry g v n entry t.0 t.1).1
-  sum (Top entry place) t = one_double (is_dirty g c v (at n Double (entry - g.direct - g.indirect))) ∙ ap (cost c v) (double_entry g v n entry t.0).1
+  sum (Node entry place) t = one_indirect (is_dirty g c v (numbered n Indirect (entry - g.direct))) ∙ ap (cost c v) (single_entry g v n entry t.0 t.1).1
+  sum (Top entry place) t = one_double (is_dirty g c v (numbered n Double (entry - g.direct - g.indirect))) ∙ ap (cost c v) (double_entry g v n entry t.0).1
   sum (Both entry outer place) t =
-      two (is_dirty g c v (at n Indirect (indirect_in g (entry - g.direct - g.indirect) outer))) (is_dirty g c v (at n Double (entry - g.direct - g.indirect)))
+      two (is_dirty g c v (numbered n Indirect (number_under g Double (entry - g.direct - g.indirect) outer))) (is_dirty g c v (numbered n Double (entry - g.direct - g.indirect)))
       ∙ (λ x. cost c v ((double_entry g v n entry t.0).1 x) + cost c v (inner_block entry outer place t x))
 
   -- The fresh positions of a cut are as many as the blocks that it needs.

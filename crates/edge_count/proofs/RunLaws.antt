@@ -13,51 +13,51 @@ use Rattle.edge_base.specs.tree.Positions.{Position, same_form, has, count_of, p
 use Rattle.edge_base.proofs.ChainLaws.{has-positions_of}
 use Rattle.edge_base.proofs.CountLaws.{count_by-LeadTo, is_member-range}
 use Rattle.edge_base.proofs.PositionLaws.{has-filter, count_of-from_has, count_of-filter_both}
+use Rattle.edge_moves.specs.Sound.{numbered}
 use Rattle.std.specs.Prelude.{max}
 use Rattle.edge_count.specs.Runs.{IsRanges, first_row, row_count, run_first, run_count}
-use Rattle.edge_shape.specs.Shape.{at}
 use Rattle.edge_shape.proofs.ListLaws.{range_found, range_some}
-use Rattle.edge_shape.proofs.OneMovedLaws.{same_form-eq, same_form-self}
 use Rattle.std.specs.Cmp.{both_ways}
 use Rattle.std.proofs.Math.Nat.{le-div_iff_mul-le, div-mul-le_self}
 use Rattle.std.proofs.lemmas.Nat.{div-mul-add}
+use Rattle.edge_shape.proofs.SpotLaws.{same_form-same, same_form-true}
 
 module _ (ps : List Position) (n : ℕ) (from upto : Form → ℕ) (test : Position → Bool) (ranges : IsRanges ps n from upto) where
   abbrev of_form : Form → List Position
   of_form form = filter (λ p. test p && same_form p.form form) ps
 
-  passing : (form : Form) (p : Position) → has (of_form form) p ≡ true → (p ≡ at n form p.index) × (has ps p ≡ true) × (test p ≡ true)
+  passing : (form : Form) (p : Position) → has (of_form form) p ≡ true → (p ≡ numbered n form p.index) × (has ps p ≡ true) × (test p ≡ true)
   passing form p h =
       let parts = and_parts (has ps p) (test p && same_form p.form form) (sym (has-filter (λ q. test q && same_form q.form form) ps p) ∙ h) in
       let rest = and_parts (test p) (same_form p.form form) parts.1 in
-      (make p (ranges.number p parts.0) (same_form-eq p.form form rest.1), parts.0, rest.0)
+      (make p (ranges.number p parts.0) (same_form-true p.form form rest.1), parts.0, rest.0)
     where
-      make : (p : Position) → p.number ≡ n → p.form ≡ form → p ≡ at n form p.index
+      make : (p : Position) → p.number ≡ n → p.form ≡ form → p ≡ numbered n form p.index
       make p one two = λ i. record { number = one i; form = two i; index = p.index }
 
-  lead : (form : Form) → LeadTo (λ p. p.index) (of_form form) (λ k. test (at n form k)) (from form) (upto form)
+  lead : (form : Form) → LeadTo (λ p. p.index) (of_form form) (λ k. test (numbered n form k)) (from form) (upto form)
   lead form = record {
     inside = λ p h.
         let r = passing form p h in
         let range = and_parts (leb (from form) p.index) (ltb p.index (from form + upto form)) (sym (ranges.range form p.index) ∙ ap (has ps) (sym r.0) ∙ r.1) in
         (leb-true (from form) p.index range.0, ltb-true p.index (from form + upto form) range.1, ap test (sym r.0) ∙ r.2);
-    once = λ p q hp hq same. (passing form p hp).0 ∙ ap (at n form) same ∙ sym (passing form q hq).0;
+    once = λ p q hp hq same. (passing form p hp).0 ∙ ap (numbered n form) same ∙ sym (passing form q hq).0;
     each = λ k low high passes. (
-      at n form k,
-      has-filter (λ q. test q && same_form q.form form) ps (at n form k)
-          ∙ and_from _ _ (ranges.range form k ∙ and_from _ _ (le-leb (from form) k low) (lt-ltb k (from form + upto form) high)) (and_from _ _ passes (same_form-self form)),
+      numbered n form k,
+      has-filter (λ q. test q && same_form q.form form) ps (numbered n form k)
+          ∙ and_from _ _ (ranges.range form k ∙ and_from _ _ (le-leb (from form) k low) (lt-ltb k (from form + upto form) high)) (and_from _ _ passes (same_form-same form)),
       refl,
     );
   }
 
-  one_form : (form : Form) → count_of (of_form form) ≡ count_by (λ k. test (at n form k)) (range_with_len (from form) (upto form))
+  one_form : (form : Form) → count_of (of_form form) ≡ count_by (λ k. test (numbered n form k)) (range_with_len (from form) (upto form))
   one_form form = sym (count_by-LeadTo (lead form))
 
   -- the law
   pub count_of-forms : count_of (filter test ps)
-      ≡ count_by (λ k. test (at n Plain k)) (range_with_len (from Plain) (upto Plain))
-      + count_by (λ k. test (at n Indirect k)) (range_with_len (from Indirect) (upto Indirect))
-      + count_by (λ k. test (at n Double k)) (range_with_len (from Double) (upto Double))
+      ≡ count_by (λ k. test (numbered n Plain k)) (range_with_len (from Plain) (upto Plain))
+      + count_by (λ k. test (numbered n Indirect k)) (range_with_len (from Indirect) (upto Indirect))
+      + count_by (λ k. test (numbered n Double k)) (range_with_len (from Double) (upto Double))
   count_of-forms =
       let passed = filter test ps in
       let plain : Position → Bool = λ p. same_form p.form Plain in
@@ -181,7 +181,7 @@ table_range a b k lo len d some = both_ways _ _
 pub run_ranges : (g : Request) (n lo len : ℕ) → 0 < pointers_of g → IsRanges (positions_of g n (range_with_len lo len)) n (run_first g lo len) (run_count g lo len)
 run_ranges g n lo len some = record {
   number = λ p h. eqb-true p.number n (and_parts (p.number == n) _ (sym (has-positions_of g n (range_with_len lo len) p) ∙ h)).0;
-  range = λ form k. has-positions_of g n (range_with_len lo len) (at n form k) ∙ (λ i. eq-eqb n n refl i && list_any (is_on_chain g form k) (range_with_len lo len)) ∙ by form k;
+  range = λ form k. has-positions_of g n (range_with_len lo len) (numbered n form k) ∙ (λ i. eq-eqb n n refl i && list_any (is_on_chain g form k) (range_with_len lo len)) ∙ by form k;
 }
   where
     turn : (x c : ℕ) → (x == c) ≡ (c == x)
@@ -194,7 +194,7 @@ run_ranges g n lo len some = record {
 
 -- How many positions of a run pass a test: data blocks, indirect nodes and double-indirect nodes, each once.
 pub run_law : (g : Request) (n lo len : ℕ) (test : Position → Bool) → 0 < pointers_of g → count_of (filter test (positions_of g n (range_with_len lo len)))
-    ≡ count_by (λ k. test (at n Plain k)) (range_with_len lo len)
-    + count_by (λ k. test (at n Indirect k)) (range_with_len (run_first g lo len Indirect) (run_count g lo len Indirect))
-    + count_by (λ k. test (at n Double k)) (range_with_len (run_first g lo len Double) (run_count g lo len Double))
+    ≡ count_by (λ k. test (numbered n Plain k)) (range_with_len lo len)
+    + count_by (λ k. test (numbered n Indirect k)) (range_with_len (run_first g lo len Indirect) (run_count g lo len Indirect))
+    + count_by (λ k. test (numbered n Double k)) (range_with_len (run_first g lo len Double) (run_count g lo len Double))
 run_law g n lo len test some = count_of-forms (positions_of g n (range_with_len lo len)) n (run_first g lo len) (run_count g lo len) test (run_ranges g n lo len some)

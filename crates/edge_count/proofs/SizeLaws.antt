@@ -16,9 +16,11 @@ use Rattle.edge_base.proofs.PositionLaws.{has-append, has-filter, has-flat_map, 
 use Rattle.edge_store.specs.View.{View}
 use Rattle.edge_store.specs.Placed.{data_block}
 use Rattle.edge_store.specs.Fresh.{is_dirty, has_after, is_there_after, fresh_positions, fresh_count}
-use Rattle.edge_shape.specs.Shape.{HasShape, at, data_in, indirect_in}
+use Rattle.edge_moves.specs.Relinks.{number_under}
+use Rattle.edge_moves.specs.Sound.{numbered}
+use Rattle.edge_shape.specs.Shape.{HasShape}
 use Rattle.edge_shape.proofs.ListLaws.{found, any_of, any-filter, range_found, range_some}
-use Rattle.edge_shape.proofs.SpotLaws.{some_pointers}
+use Rattle.edge_moves.proofs.SlotLaws.{some_pointers_fit}
 use Rattle.edge_shape.proofs.LeaveLaws.{index_listed}
 use Rattle.edge_shape.proofs.RangeLaws.{on_indirect-range, on_double-range}
 use Rattle.edge_count.specs.Cuts.{removed}
@@ -40,7 +42,7 @@ module _ (g : Request) (c v : View) (n i : ℕ) (indices : List ℕ) (shape : Ha
   between form m x y z node hx hy low high = by form node hx hy
     where
       positive : 0 < pointers_of g
-      positive = some_pointers g shape.geometry
+      positive = some_pointers_fit g shape.geometry
 
       inside : (lo upto : ℕ) → (leb lo x && ltb x upto) ≡ true → (leb lo y && ltb y upto) ≡ true → (leb lo z && ltb z upto) ≡ true
       inside lo upto a b =
@@ -52,9 +54,9 @@ module _ (g : Request) (c v : View) (n i : ℕ) (indices : List ℕ) (shape : Ha
 
       by : (f : Form) → f ≢ Plain → is_on_chain g f m x ≡ true → is_on_chain g f m y ≡ true → is_on_chain g f m z ≡ true
       by Plain is_node a b = absurd (is_node refl)
-      by Indirect is_node a b = on_indirect-range g positive m z ∙ inside (data_in g m 0) (data_in g m (pointers_of g)) (sym (on_indirect-range g positive m x) ∙ a) (sym (on_indirect-range g positive m y) ∙ b)
+      by Indirect is_node a b = on_indirect-range g positive m z ∙ inside (number_under g Indirect m 0) (number_under g Indirect m (pointers_of g)) (sym (on_indirect-range g positive m x) ∙ a) (sym (on_indirect-range g positive m y) ∙ b)
       by Double is_node a b = on_double-range g positive m z
-          ∙ inside (data_in g (indirect_in g m 0) 0) (data_in g (indirect_in g m (pointers_of g)) 0) (sym (on_double-range g positive m x) ∙ a) (sym (on_double-range g positive m y) ∙ b)
+          ∙ inside (number_under g Indirect (number_under g Double m 0) 0) (number_under g Indirect (number_under g Double m (pointers_of g)) 0) (sym (on_double-range g positive m x) ∙ a) (sym (on_double-range g positive m y) ∙ b)
 
   -- ---- what is touched
 
@@ -85,7 +87,7 @@ module _ (g : Request) (c v : View) (n i : ℕ) (indices : List ℕ) (shape : Ha
       (and_from _ _ (or_left (has writes (data_at p.number last)) _ (or_left (same_position (data_at p.number last) (data_at n last)) false (subst (λ (m : ℕ). same_position (data_at p.number last) (data_at m last) ≡ true) is (same_position_equiv.refl (data_at p.number last))))) parts.1)
 
   not_plain : (p : Position) (x : ℕ) → p.number ≡ n → has (above_data g n x) p ≡ true → p.form ≢ Plain
-  not_plain p x number h plain = absurd (let e : false ≡ true = sym (above_plain g n p.index x) ∙ subst (λ (f : Form). has (above_data g n x) (at n f p.index) ≡ true) plain (subst (λ (m : ℕ). has (above_data g n x) (at m p.form p.index) ≡ true) number h) in cc)
+  not_plain p x number h plain = absurd (let e : false ≡ true = sym (above_plain g n p.index x) ∙ subst (λ (f : Form). has (above_data g n x) (numbered n f p.index) ≡ true) plain (subst (λ (m : ℕ). has (above_data g n x) (numbered m p.form p.index) ≡ true) number h) in cc)
 
   there_gone : (p : Position) → above_gone p ≡ true → is_there_after g c v writes gone p ≡ true → has (chain g n last) p ≡ true
   there_gone p above there =

@@ -16,7 +16,8 @@ use Rattle.edge_base.proofs.PositionLaws.{has-flat_map, same_position_equiv, sam
 use Rattle.edge_store.specs.View.{View}
 use Rattle.edge_store.specs.Placed.{data_block}
 use Rattle.edge_store.specs.Fresh.{has_after, is_there_after}
-use Rattle.edge_shape.specs.Shape.{HasShape, at}
+use Rattle.edge_moves.specs.Sound.{numbered}
+use Rattle.edge_shape.specs.Shape.{HasShape}
 use Rattle.edge_shape.proofs.ListLaws.{found, any_of, any-filter, range_found, range_some}
 use Rattle.edge_shape.proofs.ShapeLaws.{data_there}
 use Rattle.edge_shape.proofs.LeaveLaws.{index_there, index_listed}
@@ -26,9 +27,9 @@ use Rattle.edge_count.proofs.WriteLaws.{any_map, append_none, one_chain}
 -- ---- the pointer nodes above an index
 
 module _ (g : Request) (n : ℕ) where
-  pub above_has : (form : Form) (m x : ℕ) → form ≢ Plain → has (above_data g n x) (at n form m) ≡ is_on_chain g form m x
+  pub above_has : (form : Form) (m x : ℕ) → form ≢ Plain → has (above_data g n x) (numbered n form m) ≡ is_on_chain g form m x
   above_has Plain m x node = absurd (node refl)
-  above_has Indirect m x node = second _ _ (not_data (n == n) (m == x)) ∙ one_chain g n x (at n Indirect m) ∙ ap (λ t. t && is_on_chain g Indirect m x) (eq-eqb n n refl)
+  above_has Indirect m x node = second _ _ (not_data (n == n) (m == x)) ∙ one_chain g n x (numbered n Indirect m) ∙ ap (λ t. t && is_on_chain g Indirect m x) (eq-eqb n n refl)
     where
       not_data : (s t : Bool) → ((s && false) && t) ≡ false
       not_data true t = refl
@@ -37,7 +38,7 @@ module _ (g : Request) (n : ℕ) where
       second : (s t : Bool) → s ≡ false → t ≡ (s || t)
       second true t h = absurd (let e : true ≡ false = h in cc)
       second false t h = refl
-  above_has Double m x node = second _ _ (not_data (n == n) (m == x)) ∙ one_chain g n x (at n Double m) ∙ ap (λ t. t && is_on_chain g Double m x) (eq-eqb n n refl)
+  above_has Double m x node = second _ _ (not_data (n == n) (m == x)) ∙ one_chain g n x (numbered n Double m) ∙ ap (λ t. t && is_on_chain g Double m x) (eq-eqb n n refl)
     where
       not_data : (s t : Bool) → ((s && false) && t) ≡ false
       not_data true t = refl
@@ -50,14 +51,14 @@ module _ (g : Request) (n : ℕ) where
   pub above_number : (x : ℕ) (p : Position) → has (above_data g n x) p ≡ true → p.number ≡ n
   above_number x p h = eqb-true p.number n (and_parts (p.number == n) _ (sym (one_chain g n x p) ∙ or_right (same_position p (data_at n x)) (has (above_data g n x) p) h)).0
 
-  pub above_plain : (m x : ℕ) → has (above_data g n x) (at n Plain m) ≡ false
+  pub above_plain : (m x : ℕ) → has (above_data g n x) (numbered n Plain m) ≡ false
   above_plain m x = by (ltb x g.direct) (ltb ((x - g.direct) / pointers_of g) g.indirect)
     where
       off : (s t : Bool) → ((s && false) && t) ≡ false
       off true t = refl
       off false t = refl
 
-      by : (t u : Bool) → has (cond t [] (indirect_at n ((x - g.direct) / pointers_of g) ∷ cond u [] (double_at n (((x - g.direct) / pointers_of g - g.indirect) / pointers_of g) ∷ []))) (at n Plain m) ≡ false
+      by : (t u : Bool) → has (cond t [] (indirect_at n ((x - g.direct) / pointers_of g) ∷ cond u [] (double_at n (((x - g.direct) / pointers_of g - g.indirect) / pointers_of g) ∷ []))) (numbered n Plain m) ≡ false
       by true u = refl
       by false true = λ i. off (n == n) (m == (x - g.direct) / pointers_of g) i || false
       by false false = λ i. off (n == n) (m == (x - g.direct) / pointers_of g) i || (off (n == n) (m == ((x - g.direct) / pointers_of g - g.indirect) / pointers_of g) i || false)
@@ -81,11 +82,11 @@ module _ (g : Request) (c v : View) (n i : ℕ) (indices : List ℕ) (shape : Ha
   touched_has : (p : Position) → has (touched g (λ q. false) [] removes) p ≡ list_any (λ x. has (above_data g n x) p) cut_indices
   touched_has p = (λ t. has (all_ancestors g (append_none removes t)) p) ∙ has-flat_map (ancestors g) removes p ∙ any_map (λ q. has (ancestors g q) p) (data_at n) cut_indices
 
-  pub touched_form : (form : Form) (m : ℕ) → form ≢ Plain → has (touched g (λ q. false) [] removes) (at n form m) ≡ goes form m
-  touched_form form m node = touched_has (at n form m) ∙ (λ t. list_any (λ x. above_has g n form m x node t) cut_indices) ∙ any-filter (λ x. nat_le i x) (is_on_chain g form m) indices
+  pub touched_form : (form : Form) (m : ℕ) → form ≢ Plain → has (touched g (λ q. false) [] removes) (numbered n form m) ≡ goes form m
+  touched_form form m node = touched_has (numbered n form m) ∙ (λ t. list_any (λ x. above_has g n form m x node t) cut_indices) ∙ any-filter (λ x. nat_le i x) (is_on_chain g form m) indices
 
-  pub touched_plain : (m : ℕ) → has (touched g (λ q. false) [] removes) (at n Plain m) ≡ false
-  touched_plain m = touched_has (at n Plain m) ∙ (λ t. list_any (λ x. above_plain g n m x t) cut_indices) ∙ none cut_indices
+  pub touched_plain : (m : ℕ) → has (touched g (λ q. false) [] removes) (numbered n Plain m) ≡ false
+  touched_plain m = touched_has (numbered n Plain m) ∙ (λ t. list_any (λ x. above_plain g n m x t) cut_indices) ∙ none cut_indices
     where
       none : (xs : List ℕ) → list_any (λ x. false) xs ≡ false
       none [] = refl
@@ -131,9 +132,9 @@ module _ (g : Request) (c v : View) (n i : ℕ) (indices : List ℕ) (shape : Ha
           let same : x ≡ f.0 = ap (λ (r : Position). r.index) ((same_position_Decides (data_at n x) (data_at n f.0)).0 parts.1) in
           let high : i ≤ f.0 = leb-true i f.0 parts.0 in omega arith
 
-  pub there_form : (form : Form) (m : ℕ) → is_there_after g c v [] removes (at n form m) ≡ stays form m
+  pub there_form : (form : Form) (m : ℕ) → is_there_after g c v [] removes (numbered n form m) ≡ stays form m
   there_form form m =
-      has-positions_of g n (filter (has_after g c v [] removes n) (range_with_len 0 (max_blocks_of g))) (at n form m)
+      has-positions_of g n (filter (has_after g c v [] removes n) (range_with_len 0 (max_blocks_of g))) (numbered n form m)
       ∙ (λ t. eq-eqb n n refl t && any-filter (has_after g c v [] removes n) (is_on_chain g form m) (range_with_len 0 (max_blocks_of g)) t)
       ∙ (λ t. list_any (λ x. after_is x t && is_on_chain g form m x) (range_with_len 0 (max_blocks_of g)))
       ∙ both_ways _ _

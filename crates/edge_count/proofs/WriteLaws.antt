@@ -13,8 +13,9 @@ use Rattle.edge_base.proofs.ChainLaws.{has-positions_of}
 use Rattle.edge_base.proofs.PositionLaws.{has-append, has-filter, has-flat_map, count_of-append, count_of-from_has, same_position_equiv, same_position_Decides}
 use Rattle.edge_store.specs.View.{View}
 use Rattle.edge_store.specs.Fresh.{is_dirty, has_after, is_there_after, fresh_positions, fresh_count}
+use Rattle.edge_moves.specs.Sound.{numbered}
 use Rattle.edge_count.specs.Runs.{run_first, run_count}
-use Rattle.edge_shape.specs.Shape.{at}
+use Rattle.edge_shape.proofs.AfterLaws.{position_found}
 use Rattle.edge_shape.proofs.ListLaws.{any-filter, range_found, range_some}
 use Rattle.edge_count.proofs.RunLaws.{run_law}
 
@@ -31,15 +32,7 @@ pub any_map : {X : Type 0} (test : Position → Bool) (f : X → Position) (xs :
 any_map test f [] = refl
 any_map test f (x ∷ xs) = λ i. test (f x) || any_map test f xs i
 
--- a position of a list that passes a test
-pub position_found : (test : Position → Bool) (ps : List Position) → list_any test ps ≡ true → (p : Position) × (has ps p ≡ true) × (test p ≡ true)
-position_found test [] h = absurd (let e : false ≡ true = h in cc)
-position_found test (p ∷ ps) h = elim (or_cases (test p) (list_any test ps) h) [
-  | inl here ↦ (p, or_left (same_position p p) (has ps p) (same_position_equiv.refl p), here)
-  | inr rest ↦ let r = position_found test ps rest in (r.0, or_right (same_position r.0 p) (has ps r.0) r.1, r.2)
-]
-
-all_kept : (ps : List Position) → filter (λ p. true) ps ≡ ps
+pub all_kept : (ps : List Position) → filter (λ p. true) ps ≡ ps
 all_kept [] = refl
 all_kept (p ∷ ps) = λ i. p ∷ all_kept ps i
 
@@ -78,9 +71,9 @@ module _ (g : Request) (committed working : View) (writes : List Position) (plai
       let kind = plain f.0 f.1 in
       by f.0.number f.0.form f.0.index kind.0 kind.1 f.1 f.2
     where
-      by : (n : ℕ) (form : Form) (x : ℕ) → form ≡ Plain → x < max_blocks_of g → has writes (at n form x) ≡ true → has (at n form x ∷ ancestors g (at n form x)) p ≡ true
+      by : (n : ℕ) (form : Form) (x : ℕ) → form ≡ Plain → x < max_blocks_of g → has writes (numbered n form x) ≡ true → has (numbered n form x ∷ ancestors g (numbered n form x)) p ≡ true
           → is_there_after g committed working writes [] p ≡ true
-      by n form x is low = subst (λ (f : Form). has writes (at n f x) ≡ true → has (at n f x ∷ ancestors g (at n f x)) p ≡ true → is_there_after g committed working writes [] p ≡ true) (sym is) (λ member on.
+      by n form x is low = subst (λ (f : Form). has writes (numbered n f x) ≡ true → has (numbered n f x ∷ ancestors g (numbered n f x)) p ≡ true → is_there_after g committed working writes [] p ≡ true) (sym is) (λ member on.
           let parts = and_parts (p.number == n) (is_on_chain g p.form p.index x) (sym (one_chain g n x p) ∙ on) in
           let number : p.number ≡ n = eqb-true p.number n parts.0 in
           let written : has writes (data_at p.number x) ≡ true = subst (λ (m : ℕ). has writes (data_at m x) ≡ true) (sym number) member in
@@ -163,9 +156,9 @@ module _ (g : Request) (committed working : View) (n lo len : ℕ) (below : lo +
 
   -- The fresh positions of a run of writes, counted over three ranges: data blocks, indirect and double-indirect nodes.
   pub fresh_run : 0 < pointers_of g → fresh_count g committed working run []
-      ≡ count_by (λ k. not (is_dirty g committed working (at n Plain k))) (range_with_len lo len)
-      + count_by (λ k. not (is_dirty g committed working (at n Indirect k))) (range_with_len (run_first g lo len Indirect) (run_count g lo len Indirect))
-      + count_by (λ k. not (is_dirty g committed working (at n Double k))) (range_with_len (run_first g lo len Double) (run_count g lo len Double))
+      ≡ count_by (λ k. not (is_dirty g committed working (numbered n Plain k))) (range_with_len lo len)
+      + count_by (λ k. not (is_dirty g committed working (numbered n Indirect k))) (range_with_len (run_first g lo len Indirect) (run_count g lo len Indirect))
+      + count_by (λ k. not (is_dirty g committed working (numbered n Double k))) (range_with_len (run_first g lo len Double) (run_count g lo len Double))
   fresh_run some =
       fresh_writes g committed working run run_plain
       ∙ count_of-from_has (filter (fresh g committed working) (flat_map (λ p. p ∷ ancestors g p) run)) (filter (fresh g committed working) (positions_of g n (range_with_len lo len))) (λ p.

@@ -4,7 +4,7 @@ use Rattle.edge_base.specs.declared.form.Form.{Form}
 use Rattle.edge_base.specs.declared.form.Form.TheVariants.{Plain, Indirect, Double}
 use Rattle.edge_base.specs.declared.geometry.Request.{Request}
 use Rattle.edge_base.specs.tree.Positions.{Position, data_at}
-use Rattle.edge_shape.specs.Shape.{indirect_in}
+use Rattle.edge_moves.specs.Relinks.{number_under}
 use Rattle.edge_shape.specs.declared.cut.Cut.{Cut}
 use Rattle.edge_shape.specs.declared.cut.Cut.TheVariants.{Whole, Node, Top, Both}
 
@@ -22,7 +22,7 @@ first_through g (Top entry place) Plain = 0
 first_through g (Top entry place) Indirect = 0
 first_through g (Top entry place) Double = entry - g.direct - g.indirect
 first_through g (Both entry outer place) Plain = 0
-first_through g (Both entry outer place) Indirect = indirect_in g (entry - g.direct - g.indirect) outer
+first_through g (Both entry outer place) Indirect = number_under g Double (entry - g.direct - g.indirect) outer
 first_through g (Both entry outer place) Double = entry - g.direct - g.indirect
 
 abbrev pub many_through : Cut → Form → ℕ

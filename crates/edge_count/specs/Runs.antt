@@ -5,12 +5,12 @@ use Rattle.edge_base.specs.declared.form.Form.TheVariants.{Plain, Indirect, Doub
 use Rattle.edge_base.specs.declared.geometry.Request.{Request}
 use Rattle.edge_base.specs.layout.Places.{pointers_of}
 use Rattle.edge_base.specs.tree.Positions.{Position, has}
-use Rattle.edge_shape.specs.Shape.{at}
+use Rattle.edge_moves.specs.Sound.{numbered}
 
 -- The positions are of node n, and of each form those with so many numbers from a first one on.
 pub record IsRanges (ps : List Position) (n : ℕ) (first count : Form → ℕ) : Type 0 where
   pub number : (p : Position) → has ps p ≡ true → p.number ≡ n
-  pub range : (form : Form) (k : ℕ) → has ps (at n form k) ≡ (nat_le (first form) k && nat_lt k (first form + count form))
+  pub range : (form : Form) (k : ℕ) → has ps (numbered n form k) ≡ (nat_le (first form) k && nat_lt k (first form + count form))
 
 -- Behind the first a numbers, rows of k: those of len numbers from lo on, the first of them and how many.
 abbrev pub first_row : ℕ → ℕ → ℕ → ℕ

@@ -9,9 +9,10 @@ ghost use Rattle.edge_base.specs.layout.Places.{IsGeometry, max_blocks_of};
 ghost use Rattle.edge_base.specs.tree.Positions.{Position, data_at, ancestors, chain, positions_of, has, count_of};
 ghost use Rattle.edge_store.specs.Fresh.{is_dirty, fresh_count};
 ghost use Rattle.edge_store.specs.View.{View, free_after, free_now};
+ghost use Rattle.edge_moves.specs.Sound.{numbered};
 ghost use Rattle.edge_shape.specs.declared.cut.Cut.{Cut};
 ghost use Rattle.edge_shape.specs.Cut.{IsCut};
-ghost use Rattle.edge_shape.specs.Shape.{HasShape, at};
+ghost use Rattle.edge_shape.specs.Shape.{HasShape};
 ghost use Rattle.edge_shape.specs.Where.{cut_at, cut_need};
 ghost use Rattle.edge_count.specs.Cuts.{removed};
 ghost use Rattle.edge_count.specs.Runs.{IsRanges, run_first, run_count};
@@ -21,9 +22,9 @@ ghost use Rattle.edge_count.specs.Runs.{IsRanges, run_first, run_count};
 pub fn positions_count_by_form()
     ensures sum { (ps : List Position) (n : ℕ) (first count : Form → ℕ) (test : Position → Bool)
         → IsRanges ps n first count → count_of (filter test ps)
-        ≡ count_by (λ k. test (at n Plain k)) (range_with_len (first Plain) (count Plain))
-        + count_by (λ k. test (at n Indirect k)) (range_with_len (first Indirect) (count Indirect))
-        + count_by (λ k. test (at n Double k)) (range_with_len (first Double) (count Double)) }
+        ≡ count_by (λ k. test (numbered n Plain k)) (range_with_len (first Plain) (count Plain))
+        + count_by (λ k. test (numbered n Indirect k)) (range_with_len (first Indirect) (count Indirect))
+        + count_by (λ k. test (numbered n Double k)) (range_with_len (first Double) (count Double)) }
     ensures run { (g : Request) (n lo len : ℕ) → IsGeometry g
         → IsRanges (positions_of g n (range_with_len lo len)) n
         (run_first g lo len) (run_count g lo len) }
@@ -47,10 +48,10 @@ pub fn writes_make_their_chains_dirty()
     ensures run { (g : Request) (c v : View) (n lo len : ℕ)
         → IsGeometry g → lo + len ≤ max_blocks_of g
         → fresh_count g c v (map (data_at n) (range_with_len lo len)) []
-        ≡ count_by (λ k. not (is_dirty g c v (at n Plain k))) (range_with_len lo len)
-        + count_by (λ k. not (is_dirty g c v (at n Indirect k)))
+        ≡ count_by (λ k. not (is_dirty g c v (numbered n Plain k))) (range_with_len lo len)
+        + count_by (λ k. not (is_dirty g c v (numbered n Indirect k)))
         (range_with_len (run_first g lo len Indirect) (run_count g lo len Indirect))
-        + count_by (λ k. not (is_dirty g c v (at n Double k)))
+        + count_by (λ k. not (is_dirty g c v (numbered n Double k)))
         (range_with_len (run_first g lo len Double) (run_count g lo len Double)) }
 {}
 
@@ -74,17 +75,9 @@ pub fn a_cut_behind_a_write_adds_nothing()
         ≡ count_of (filter (λ p. not (is_dirty g c v p)) (chain g n (i - 1))) }
 {}
 
-/// After a cut as many blocks more are free after the next point as positions of the node are gone.
-pub fn a_cut_gives_back_what_is_gone()
-    ensures { (g : Request) (c v w : View) (n : ℕ) (cut : Cut) (indices rest : List ℕ)
-        → HasShape g v n indices → IsCut g c v w n cut indices rest
-        → free_after g v + count_of (positions_of g n indices)
-        ≡ free_after g w + count_of (positions_of g n rest) }
-{}
-
 /// A cut at an index takes no more of the blocks that are free now than it needs.
 pub fn a_cut_takes_no_more_than_it_needs()
-    ensures { (g : Request) (c v w : View) (n i : ℕ) (indices rest : List ℕ)
-        → HasShape g v n indices → IsCut g c v w n (cut_at g v n i) indices rest
+    ensures { (g : Request) (c v w : View) (n i : ℕ) (indices : List ℕ)
+        → HasShape g v n indices → IsCut g c v w n i indices
         → free_now g c v ≤ free_now g c w + cut_need g c v n i }
 {}

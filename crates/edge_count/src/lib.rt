@@ -8,7 +8,6 @@
 mod laws;
 
 pub use laws::{
-    a_cut_behind_a_write_adds_nothing, a_cut_gives_back_what_is_gone,
-    a_cut_needs_its_fresh_positions, a_cut_takes_no_more_than_it_needs, positions_count_by_form,
-    writes_make_their_chains_dirty,
+    a_cut_behind_a_write_adds_nothing, a_cut_needs_its_fresh_positions,
+    a_cut_takes_no_more_than_it_needs, positions_count_by_form, writes_make_their_chains_dirty,
 };

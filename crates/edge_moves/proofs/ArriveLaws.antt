@@ -136,7 +136,8 @@ module _ (g : Request) (c v m w : View) (n : ℕ) (on : List Position) (h : Form
 
   pointer_moved : PointerMoved g c m w h n top i b → Arrived g c v w n (numbered n h k ∷ on) f_p m_p b
   pointer_moved moved =
-      let step = pointer_step g c m w n h k i top b fits far.view view_w far.sound far.apart node low place prior.lands top_new top_some moved in
+      let step = pointer_step g c m w n h k i top b fits far.view view_w far.sound far.apart node low place prior.lands
+      (and_parts (is_used m top) (not (is_used c top)) top_new).0 (λ same. let f : true ≡ false = sym top_new ∙ ap (is_new c m) (sym same) ∙ moved.moved.was in cc) top_some moved in
       let above : Above g m n (numbered n h k ∷ on) top = record { form = h; k = k; low = low; listed = listed; is = prior.lands } in
       record {
         so_far = next_moved g c v m n (numbered n h k ∷ on) sound view far f_p m_p low_p out w b top step (inr above);

@@ -122,7 +122,7 @@ module _ (g : Request) (c v w : View) (n e b : ℕ) (fits : g.direct + g.indirec
 -- ---- a pointer
 
 module _ (g : Request) (c v w : View) (n : ℕ) (h : Form) (m i top b : ℕ) (fits : g.direct + g.indirect ≤ entries_of g) (view : IsView g v) (view_w : IsView g w) (sound : IsSound g v n) (apart : IsApart g v n)
-    (node : h ≢ Plain) (low : m < positions_of_form g h) (place : i < pointers_of g) (is_top : block_at g v (numbered n h m) ≡ top) (top_new : is_new c v top ≡ true) (top_some : top ≢ 0)
+    (node : h ≢ Plain) (low : m < positions_of_form g h) (place : i < pointers_of g) (is_top : block_at g v (numbered n h m) ≡ top) (top_is_used : is_used v top ≡ true) (from_top : pointer_at v h top i ≢ top) (top_some : top ≢ 0)
     (was : PointerMoved g c v w h n top i b) where
   abbrev mid_p : View
   mid_p = was.between
@@ -136,14 +136,8 @@ module _ (g : Request) (c v w : View) (n : ℕ) (h : Form) (m i top b : ℕ) (fi
   from_p : pointer_at v h top i ≡ block_at g v (numbered n f_p m_p)
   from_p = ap (λ (x : ℕ). pointer_at v h x i) (sym is_top) ∙ (self_relinks g v n).pointers h m i node low place
 
-  top_is_used : is_used v top ≡ true
-  top_is_used = (and_parts (is_used v top) (not (is_used c top)) top_new).0
-
   b_top : b ≢ top
   b_top same = let f : false ≡ true = ap is_some (sym was.moved.fresh.unused ∙ ap v.blocks same) ∙ top_is_used in cc
-
-  from_top : pointer_at v h top i ≢ top
-  from_top same = let f : true ≡ false = sym top_new ∙ ap (is_new c v) (sym same) ∙ was.moved.was in cc
 
   beside : (k : ℕ) → k ≢ top → w.blocks k ≡ mid_p.blocks k
   beside k away = ap (λ (u : View). u.blocks k) was.set.working ∙ with_block_apart mid_p top (w.blocks top) k away

@@ -9,11 +9,13 @@ use Rattle.edge_base.specs.declared.form.Form.TheVariants.{Plain, Indirect, Doub
 use Rattle.edge_base.specs.declared.geometry.Request.{Request}
 use Rattle.edge_base.specs.layout.Places.{pointers_of}
 use Rattle.edge_store.specs.View.{View, IsView, entries_of_inode}
-use Rattle.edge_store.specs.Placed.{entry_at, double_block, indirect_block}
-use Rattle.edge_shape.specs.Shape.{HasShape, entries_at, data_in, indirect_in, before, outside, HasBetween}
+use Rattle.edge_store.specs.Placed.{entry_at, pointer_at, double_block, indirect_block}
+use Rattle.edge_moves.specs.Relinks.{number_under}
+use Rattle.edge_shape.specs.Shape.{HasShape, entries_at, before, outside, HasBetween}
 use Rattle.edge_shape.specs.Trees.{IsSoundTree}
 use Rattle.edge_shape.specs.Cutting.{CutPlaces}
-use Rattle.edge_shape.specs.Moved.{OwnsEntry, OwnsPointer}
+use Rattle.edge_moves.specs.Renewal.{EntryRenewed, PointerRenewed}
+use Rattle.edge_moves.proofs.StepLaws.{pointer_is}
 use Rattle.edge_shape.specs.Where.{first_in_entry}
 use Rattle.edge_shape.proofs.ListLaws.{any_of, any-filter, filter-filter}
 use Rattle.edge_shape.proofs.ShapeLaws.{indirect_pointer}
@@ -45,29 +47,29 @@ module _ (g : Request) (positive : 0 < pointers_of g) where
   abbrev k : ℕ
   k = pointers_of g
 
-  pub node_end : (j : ℕ) → data_in g j k ≡ data_in g (j + 1) 0
+  pub node_end : (j : ℕ) → number_under g Indirect j k ≡ number_under g Indirect (j + 1) 0
   node_end j = let next = one_row j k in omega arith
 
-  pub top_end : (d : ℕ) → data_in g (indirect_in g d k) 0 ≡ data_in g (indirect_in g (d + 1) 0) 0
-  top_end d = ap (λ (m : ℕ). g.direct + (m * k + 0)) (let next = one_row d k in let e : indirect_in g d k ≡ indirect_in g (d + 1) 0 = omega arith in e)
+  pub top_end : (d : ℕ) → number_under g Indirect (number_under g Double d k) 0 ≡ number_under g Indirect (number_under g Double (d + 1) 0) 0
+  top_end d = ap (λ (m : ℕ). g.direct + (m * k + 0)) (let next = one_row d k in let e : number_under g Double d k ≡ number_under g Double (d + 1) 0 = omega arith in e)
 
-  pub single_end : (e : ℕ) → g.direct ≤ e → e < g.direct + g.indirect → first_in_entry g (e + 1) ≡ data_in g (e - g.direct) k
+  pub single_end : (e : ℕ) → g.direct ≤ e → e < g.direct + g.indirect → first_in_entry g (e + 1) ≡ number_under g Indirect (e - g.direct) k
   single_end e past low = elim (cases_lt (e + 1) (g.direct + g.indirect)) [
-    | inl more ↦ first-single g positive (e + 1) (omega arith) more ∙ ap (λ (m : ℕ). data_in g m 0) (let is : e + 1 - g.direct ≡ e - g.direct + 1 = omega arith in is) ∙ sym (node_end (e - g.direct))
+    | inl more ↦ first-single g positive (e + 1) (omega arith) more ∙ ap (λ (m : ℕ). number_under g Indirect m 0) (let is : e + 1 - g.direct ≡ e - g.direct + 1 = omega arith in is) ∙ sym (node_end (e - g.direct))
     | inr last ↦
         first-double g positive (e + 1) last
-        ∙ ap (λ (m : ℕ). data_in g m 0) (let none = no_row (e + 1 - g.direct - g.indirect) k (omega arith) in let is : indirect_in g (e + 1 - g.direct - g.indirect) 0 ≡ e - g.direct + 1 = omega arith in is)
+        ∙ ap (λ (m : ℕ). number_under g Indirect m 0) (let none = no_row (e + 1 - g.direct - g.indirect) k (omega arith) in let is : number_under g Double (e + 1 - g.direct - g.indirect) 0 ≡ e - g.direct + 1 = omega arith in is)
         ∙ sym (node_end (e - g.direct))
   ]
 
-  pub double_end : (e : ℕ) → g.direct + g.indirect ≤ e → first_in_entry g (e + 1) ≡ data_in g (indirect_in g (e - g.direct - g.indirect) k) 0
+  pub double_end : (e : ℕ) → g.direct + g.indirect ≤ e → first_in_entry g (e + 1) ≡ number_under g Indirect (number_under g Double (e - g.direct - g.indirect) k) 0
   double_end e past =
       first-double g positive (e + 1) (omega arith)
-      ∙ ap (λ (m : ℕ). data_in g (indirect_in g m 0) 0) (let is : e + 1 - g.direct - g.indirect ≡ e - g.direct - g.indirect + 1 = omega arith in is)
+      ∙ ap (λ (m : ℕ). number_under g Indirect (number_under g Double m 0) 0) (let is : e + 1 - g.direct - g.indirect ≡ e - g.direct - g.indirect + 1 = omega arith in is)
       ∙ sym (top_end (e - g.direct - g.indirect))
 
-  pub places_up : (d from upto : ℕ) → from ≤ upto → data_in g (indirect_in g d from) 0 ≤ data_in g (indirect_in g d upto) 0
-  places_up d from upto h = let up : indirect_in g d from * k ≤ indirect_in g d upto * k = mul-le-mul_right k (let e : indirect_in g d from ≤ indirect_in g d upto = omega arith in e) in omega arith
+  pub places_up : (d from upto : ℕ) → from ≤ upto → number_under g Indirect (number_under g Double d from) 0 ≤ number_under g Indirect (number_under g Double d upto) 0
+  places_up d from upto h = let up : number_under g Double d from * k ≤ number_under g Double d upto * k = mul-le-mul_right k (let e : number_under g Double d from ≤ number_under g Double d upto = omega arith in e) in omega arith
 
 -- ---- one pointer node
 
@@ -80,13 +82,13 @@ module _ (g : Request) (c v : View) (n : ℕ) (indices : List ℕ) (shape : HasS
 
   -- an indirect node
   module _ (entry place : ℕ) (past : g.direct ≤ entry) (low : entry < g.direct + g.indirect) (most : place ≤ pointers_of g)
-      (stays : HasBetween indices (data_in g (entry - g.direct) 0) (data_in g (entry - g.direct) place)) where
+      (stays : HasBetween indices (number_under g Indirect (entry - g.direct) 0) (number_under g Indirect (entry - g.direct) place)) where
     pub node_there : entry_at v n entry ≢ 0
     node_there none = (in_node g v n indices shape (entry - g.direct) 0 place most stays).3 ((single_entry g v n entry past low).1 ∙ none)
 
-    module _ (owned : View) (block : ℕ) (own : OwnsEntry g c v owned n entry Indirect block) (owned_view : IsView g owned) where
+    module _ (owned : View) (block : ℕ) (own : EntryRenewed g c v owned n entry block) (owned_view : IsView g owned) where
       made : HasShape g owned n indices × (entry_at owned n entry ≡ block)
-      made = owns_entry g c v owned n indices shape entry block Indirect (single_entry g v n entry past low).0 node_there own owned_view
+      made = owns_entry g c v owned n indices shape entry block node_there own owned_view
 
       pub is_block : indirect_block g owned n (entry - g.direct) ≡ block
       is_block = (single_entry g owned n entry past low).1 ∙ made.1
@@ -100,16 +102,16 @@ module _ (g : Request) (c v : View) (n : ℕ) (indices : List ℕ) (shape : HasS
 
   -- a double-indirect node
   module _ (entry place : ℕ) (past : g.direct + g.indirect ≤ entry) (most : place ≤ pointers_of g)
-      (stays : HasBetween indices (data_in g (indirect_in g (entry - g.direct - g.indirect) 0) 0) (data_in g (indirect_in g (entry - g.direct - g.indirect) place) 0)) where
+      (stays : HasBetween indices (number_under g Indirect (number_under g Double (entry - g.direct - g.indirect) 0) 0) (number_under g Indirect (number_under g Double (entry - g.direct - g.indirect) place) 0)) where
     abbrev d : ℕ
     d = entry - g.direct - g.indirect
 
     pub top_there : entry_at v n entry ≢ 0
     top_there none = (in_double g v n indices shape d 0 place most stays).3 ((double_entry g v n entry past).1 ∙ none)
 
-    module _ (owned : View) (block : ℕ) (own : OwnsEntry g c v owned n entry Double block) (owned_view : IsView g owned) where
+    module _ (owned : View) (block : ℕ) (own : EntryRenewed g c v owned n entry block) (owned_view : IsView g owned) where
       top_made : HasShape g owned n indices × (entry_at owned n entry ≡ block)
-      top_made = owns_entry g c v owned n indices shape entry block Double (double_entry g v n entry past).0 top_there own owned_view
+      top_made = owns_entry g c v owned n indices shape entry block top_there own owned_view
 
       pub is_top : double_block g owned n d ≡ block
       is_top = (double_entry g owned n entry past).1 ∙ top_made.1
@@ -123,28 +125,28 @@ module _ (g : Request) (c v : View) (n : ℕ) (indices : List ℕ) (shape : HasS
 
   -- an indirect node under a double-indirect one
   module _ (entry outer place : ℕ) (past : g.direct + g.indirect ≤ entry) (low : outer < pointers_of g) (most : place ≤ pointers_of g)
-      (stays : HasBetween indices (data_in g (indirect_in g (entry - g.direct - g.indirect) outer) 0) (data_in g (indirect_in g (entry - g.direct - g.indirect) outer) place)) where
+      (stays : HasBetween indices (number_under g Indirect (number_under g Double (entry - g.direct - g.indirect) outer) 0) (number_under g Indirect (number_under g Double (entry - g.direct - g.indirect) outer) place)) where
     abbrev dd : ℕ
     dd = entry - g.direct - g.indirect
 
     abbrev j : ℕ
-    j = indirect_in g dd outer
+    j = number_under g Double dd outer
 
     -- the index that stays is under the double-indirect node up to this place
-    pub stays_top : HasBetween indices (data_in g (indirect_in g dd 0) 0) (data_in g (indirect_in g dd (outer + 1)) 0)
+    pub stays_top : HasBetween indices (number_under g Indirect (number_under g Double dd 0) 0) (number_under g Indirect (number_under g Double dd (outer + 1)) 0)
     stays_top =
         let up = places_up g positive dd 0 outer (omega arith) in
         let next = node_end g positive j in
-        let is : indirect_in g dd (outer + 1) ≡ j + 1 = omega arith in
-        let end : data_in g (indirect_in g dd (outer + 1)) 0 ≡ data_in g (j + 1) 0 = ap (λ (m : ℕ). data_in g m 0) is in
-        let from : data_in g j 0 ≤ stays.0 = stays.2 in
-        let upto : stays.0 < data_in g j place = stays.3 in
-        (stays.0, stays.1, (let e : data_in g (indirect_in g dd 0) 0 ≤ stays.0 = omega arith in e), (let e : stays.0 < data_in g (indirect_in g dd (outer + 1)) 0 = omega arith in e))
+        let is : number_under g Double dd (outer + 1) ≡ j + 1 = omega arith in
+        let end : number_under g Indirect (number_under g Double dd (outer + 1)) 0 ≡ number_under g Indirect (j + 1) 0 = ap (λ (m : ℕ). number_under g Indirect m 0) is in
+        let from : number_under g Indirect j 0 ≤ stays.0 = stays.2 in
+        let upto : stays.0 < number_under g Indirect j place = stays.3 in
+        (stays.0, stays.1, (let e : number_under g Indirect (number_under g Double dd 0) 0 ≤ stays.0 = omega arith in e), (let e : stays.0 < number_under g Indirect (number_under g Double dd (outer + 1)) 0 = omega arith in e))
 
     pub both_there : entry_at v n entry ≢ 0
     both_there = top_there entry (outer + 1) past (omega arith) stays_top
 
-    module _ (one : View) (top : ℕ) (own_top : OwnsEntry g c v one n entry Double top) (one_view : IsView g one) where
+    module _ (one : View) (top : ℕ) (own_top : EntryRenewed g c v one n entry top) (one_view : IsView g one) where
       pub both_top : HasShape g one n indices
       both_top = top_owned entry (outer + 1) past (omega arith) stays_top one top own_top one_view
 
@@ -159,11 +161,13 @@ module _ (g : Request) (c v : View) (n : ℕ) (indices : List ℕ) (shape : HasS
           let node = (in_node g one n indices both_top j 0 place most stays).3 in
           node (sym (indirect_pointer g one n indices both_top dd under outer low) ∙ ap (λ (b : ℕ). slice_index (entries_at one Double b) outer) top_is ∙ none)
 
-      module _ (two : View) (node : ℕ) (own_node : OwnsPointer g c one two Double n top outer Indirect node) (two_view : IsView g two) where
+      pub outer_there : pointer_at one Double (double_block g one n dd) outer ≢ 0
+      outer_there none = pointer_there_top (sym (ap (λ (b : ℕ). slice_index (entries_at one Double b) outer) top_is) ∙ sym (pointer_is one Double (double_block g one n dd) outer under) ∙ none)
+
+      module _ (two : View) (node : ℕ) (own_node : PointerRenewed g c one two Double n top outer node) (two_view : IsView g two) where
         pub moved : HasShape g two n indices × (double_block g two n dd ≡ double_block g one n dd) × (indirect_block g two n j ≡ node)
         moved = owns_pointer g c one two n indices both_top Double dd outer node (λ (e : Double ≡ Plain). cc) low under
-            (λ none. pointer_there_top (sym (ap (λ (b : ℕ). slice_index (entries_at one Double b) outer) top_is) ∙ none))
-            (subst (λ (b : ℕ). OwnsPointer g c one two Double n b outer Indirect node) (sym top_is) own_node) two_view
+            outer_there (subst (λ (b : ℕ). PointerRenewed g c one two Double n b outer node) (sym top_is) own_node) two_view
 
         pub both_owned : HasShape g two n indices
         both_owned = moved.0
@@ -172,7 +176,7 @@ module _ (g : Request) (c v : View) (n : ℕ) (indices : List ℕ) (shape : HasS
         both_node_sound = subst (λ (b : ℕ). IsSoundTree g two Indirect n b) moved.2 (sound_at g two n indices moved.0 Indirect j (in_node g two n indices moved.0 j 0 place most stays).3)
 
         abbrev rest : List ℕ
-        rest = outside (data_in g j place) (data_in g j (pointers_of g)) indices
+        rest = outside (number_under g Indirect j place) (number_under g Indirect j (pointers_of g)) indices
 
         module _ (three : View) (three_view : IsView g three) (cut : CutPlaces two three Indirect n node place (pointers_of g)) where
           pub both_node_trimmed : HasShape g three n rest
@@ -181,17 +185,17 @@ module _ (g : Request) (c v : View) (n : ℕ) (indices : List ℕ) (shape : HasS
           pub top_still : double_block g three n dd ≡ top
           top_still = (double_entry g three n entry past).1 ∙ ap (λ (o : ℕ → _). slice_index (entries_of_inode (o n)) entry) cut.inodes ∙ sym (double_entry g two n entry past).1 ∙ moved.1 ∙ top_is
 
-          pub stays_rest : HasBetween rest (data_in g (indirect_in g dd 0) 0) (data_in g (indirect_in g dd (outer + 1)) 0)
+          pub stays_rest : HasBetween rest (number_under g Indirect (number_under g Double dd 0) 0) (number_under g Indirect (number_under g Double dd (outer + 1)) 0)
           unfolding stays_top
           stays_rest = (
             stays.0,
-            any-filter (λ x. not (leb (data_in g j place) x && ltb x (data_in g j (pointers_of g)))) (λ x. x == stays.0) indices
-                ∙ any_of (λ x. not (leb (data_in g j place) x && ltb x (data_in g j (pointers_of g))) && (x == stays.0)) indices stays.0 stays.1 (and_from _ _ (before_it stays.0 stays.3) (eq-eqb stays.0 stays.0 refl)),
+            any-filter (λ x. not (leb (number_under g Indirect j place) x && ltb x (number_under g Indirect j (pointers_of g)))) (λ x. x == stays.0) indices
+                ∙ any_of (λ x. not (leb (number_under g Indirect j place) x && ltb x (number_under g Indirect j (pointers_of g))) && (x == stays.0)) indices stays.0 stays.1 (and_from _ _ (before_it stays.0 stays.3) (eq-eqb stays.0 stays.0 refl)),
             stays_top.2,
             stays_top.3,
           )
             where
-              before_it : (x : ℕ) → x < data_in g j place → not (leb (data_in g j place) x && ltb x (data_in g j (pointers_of g))) ≡ true
+              before_it : (x : ℕ) → x < number_under g Indirect j place → not (leb (number_under g Indirect j place) x && ltb x (number_under g Indirect j (pointers_of g))) ≡ true
               before_it x h = grind (arith, nat_tests)
 
           pub both_top_sound : IsSoundTree g three Double n top

@@ -12,7 +12,9 @@ use Rattle.edge_base.specs.tree.Positions.{Position}
 use Rattle.edge_store.specs.View.{View, is_spot, is_whole, is_owned_by, entries_in, entries_of_inode, IsView}
 use Rattle.edge_store.specs.Placed.{double_block, indirect_block, block_at}
 use Rattle.edge_store.proofs.ViewLaws.{unused_zero}
-use Rattle.edge_shape.specs.Shape.{HasShape, at, entries_at, data_in, indirect_in}
+use Rattle.edge_moves.specs.Relinks.{number_under}
+use Rattle.edge_moves.specs.Sound.{numbered}
+use Rattle.edge_shape.specs.Shape.{HasShape, entries_at}
 use Rattle.edge_shape.specs.Trees.{in_tree, in_indirect}
 use Rattle.edge_shape.specs.Cutting.{CutPlaces}
 use Rattle.edge_shape.specs.Gone.{Pointers, gone_double, gone_indirect, gone_data, gone, left, Unlinks, Leaves, KeepsSpots, double_places}
@@ -25,32 +27,32 @@ use Rattle.edge_shape.proofs.IndirectCutLaws.{form_of, index_of}
 -- ---- what hangs under a position that is gone
 
 module _ (g : Request) (v : View) (n : ℕ) (indices : List ℕ) (shape : HasShape g v n indices) (taken : Pointers) where
-  same_gone : (form other : Form) (m l : ℕ) → at n form m ≡ at n other l → gone g taken form m ≡ gone g taken other l
+  same_gone : (form other : Form) (m l : ℕ) → numbered n form m ≡ numbered n other l → gone g taken form m ≡ gone g taken other l
   same_gone form other m l e = ap (λ (r : Position). gone g taken r.form r.index) e
 
-  data_gone : (j p : ℕ) → p < pointers_of g → gone_indirect g taken j ≡ true → gone_data g taken (data_in g j p) ≡ true
+  data_gone : (j p : ℕ) → p < pointers_of g → gone_indirect g taken j ≡ true → gone_data g taken (number_under g Indirect j p) ≡ true
   data_gone j p low lost = gone_data-down g taken j p low ∙ or_left (gone_indirect g taken j) (taken.inner j p) lost
 
-  pub under_gone : (form other : Form) (m l : ℕ) → gone g taken form m ≡ true → block_at g v (at n form m) ≢ 0 → block_at g v (at n other l) ≢ 0
-      → in_tree v form (block_at g v (at n form m)) (block_at g v (at n other l)) ≡ true → gone g taken other l ≡ true
+  pub under_gone : (form other : Form) (m l : ℕ) → gone g taken form m ≡ true → block_at g v (numbered n form m) ≢ 0 → block_at g v (numbered n other l) ≢ 0
+      → in_tree v form (block_at g v (numbered n form m)) (block_at g v (numbered n other l)) ≡ true → gone g taken other l ≡ true
   under_gone Plain other m l lost some there h = same_gone other Plain l m (one_place g v n indices shape other Plain l m there (eqb-true _ _ h)) ∙ lost
-  under_gone Indirect other m l lost some there h = elim (under_indirect g v n indices shape m some (block_at g v (at n other l)) h) [
+  under_gone Indirect other m l lost some there h = elim (under_indirect g v n indices shape m some (block_at g v (numbered n other l)) h) [
     | inl is ↦ same_gone other Indirect l m (one_place g v n indices shape other Indirect l m there is) ∙ lost
-    | inr r ↦ same_gone other Plain l (data_in g m r.0) (one_place g v n indices shape other Plain l (data_in g m r.0) there (sym r.2)) ∙ data_gone m r.0 r.1 lost
+    | inr r ↦ same_gone other Plain l (number_under g Indirect m r.0) (one_place g v n indices shape other Plain l (number_under g Indirect m r.0) there (sym r.2)) ∙ data_gone m r.0 r.1 lost
   ]
-  under_gone Double other m l lost some there h = elim (or_cases (block_at g v (at n other l) == double_block g v n m) (list_any (λ c. in_indirect v c (block_at g v (at n other l))) (entries_at v Double (double_block g v n m))) h) [
+  under_gone Double other m l lost some there h = elim (or_cases (block_at g v (numbered n other l) == double_block g v n m) (list_any (λ c. in_indirect v c (block_at g v (numbered n other l))) (entries_at v Double (double_block g v n m))) h) [
     | inl is ↦ same_gone other Double l m (one_place g v n indices shape other Double l m there (eqb-true _ _ is)) ∙ lost
     | inr rest ↦
-        let f = list_found (λ c. in_indirect v c (block_at g v (at n other l))) (entries_at v Double (double_block g v n m)) rest in
+        let f = list_found (λ c. in_indirect v c (block_at g v (numbered n other l))) (entries_at v Double (double_block g v n m)) rest in
         let low : f.0 < pointers_of g = let before : f.0 < length (entries_at v Double (double_block g v n m)) = f.1 in let all = long_double g v n indices shape m some in omega arith in
         elim (cases_eq (slice_index (entries_at v Double (double_block g v n m)) f.0) 0) [
-          | inl none ↦ absurd (there (eqb-true (block_at g v (at n other l)) 0 (sym (tree_of_zero v Indirect (block_at g v (at n other l)) (unused_zero g v shape.view) (λ (e : Indirect ≡ Double). cc)) ∙ sym (ap (λ (c : ℕ). in_indirect v c (block_at g v (at n other l))) none) ∙ f.2)))
+          | inl none ↦ absurd (there (eqb-true (block_at g v (numbered n other l)) 0 (sym (tree_of_zero v Indirect (block_at g v (numbered n other l)) (unused_zero g v shape.view) (λ (e : Indirect ≡ Double). cc)) ∙ sym (ap (λ (c : ℕ). in_indirect v c (block_at g v (numbered n other l))) none) ∙ f.2)))
           | inr there_s ↦
-              let lost_s : gone_indirect g taken (indirect_in g m f.0) ≡ true = gone_indirect-down g taken m f.0 low ∙ or_left (gone_double g taken m) (taken.outer m f.0) lost in
-              elim (under_pointer g v n indices shape m some f.0 (block_at g v (at n other l)) low there_s f.2) [
-                | inl is ↦ same_gone other Indirect l (indirect_in g m f.0) (one_place g v n indices shape other Indirect l (indirect_in g m f.0) there is) ∙ lost_s
-                | inr r ↦ same_gone other Plain l (data_in g (indirect_in g m f.0) r.0)
-                    (one_place g v n indices shape other Plain l (data_in g (indirect_in g m f.0) r.0) there (sym r.2)) ∙ data_gone (indirect_in g m f.0) r.0 r.1 lost_s
+              let lost_s : gone_indirect g taken (number_under g Double m f.0) ≡ true = gone_indirect-down g taken m f.0 low ∙ or_left (gone_double g taken m) (taken.outer m f.0) lost in
+              elim (under_pointer g v n indices shape m some f.0 (block_at g v (numbered n other l)) low there_s f.2) [
+                | inl is ↦ same_gone other Indirect l (number_under g Double m f.0) (one_place g v n indices shape other Indirect l (number_under g Double m f.0) there is) ∙ lost_s
+                | inr r ↦ same_gone other Plain l (number_under g Indirect (number_under g Double m f.0) r.0)
+                    (one_place g v n indices shape other Plain l (number_under g Indirect (number_under g Double m f.0) r.0) there (sym r.2)) ∙ data_gone (number_under g Double m f.0) r.0 r.1 lost_s
               ]
         ]
   ]
@@ -69,22 +71,22 @@ module _ (g : Request) (v w : View) (n : ℕ) (indices : List ℕ) (shape : HasS
   abbrev taken : Pointers
   taken = double_places d from k
 
-  gone_here : (s : ℕ) → from ≤ s → s < k → gone_indirect g taken (indirect_in g d s) ≡ true
+  gone_here : (s : ℕ) → from ≤ s → s < k → gone_indirect g taken (number_under g Double d s) ≡ true
   gone_here s low high = gone_indirect-down g taken d s high ∙ (λ i. false || here s low high i)
     where
       here : (s : ℕ) → from ≤ s → s < k → ((d == d) && (leb from s && ltb s k)) ≡ true
       here s low high = grind (arith, nat_tests)
 
   -- blocks of the node that are not gone are as they were
-  pub double_untouched : (form : Form) (m : ℕ) → gone g taken form m ≡ false → block_at g v (at n form m) ≢ 0 → block_at g v (at n form m) ≢ t → w.blocks (block_at g v (at n form m)) ≡ v.blocks (block_at g v (at n form m))
-  double_untouched form m lost some apart = cut.kept (block_at g v (at n form m)) apart
-      (λ s low high there_s. is_false (in_indirect v (slice_index (entries_at v Double t) s) (block_at g v (at n form m)))
+  pub double_untouched : (form : Form) (m : ℕ) → gone g taken form m ≡ false → block_at g v (numbered n form m) ≢ 0 → block_at g v (numbered n form m) ≢ t → w.blocks (block_at g v (numbered n form m)) ≡ v.blocks (block_at g v (numbered n form m))
+  double_untouched form m lost some apart = cut.kept (block_at g v (numbered n form m)) apart
+      (λ s low high there_s. is_false (in_indirect v (slice_index (entries_at v Double t) s) (block_at g v (numbered n form m)))
       (λ under.
       let is = indirect_pointer g v n indices shape d there s high in
-      true_false (sym (under_gone g v n indices shape taken Indirect form (indirect_in g d s) m (gone_here s low high) (λ none. there_s (is ∙ none)) some
-      (subst (λ (c : ℕ). in_indirect v c (block_at g v (at n form m)) ≡ true) is under)) ∙ lost)))
+      true_false (sym (under_gone g v n indices shape taken Indirect form (number_under g Double d s) m (gone_here s low high) (λ none. there_s (is ∙ none)) some
+      (subst (λ (c : ℕ). in_indirect v c (block_at g v (numbered n form m)) ≡ true) is under)) ∙ lost)))
 
-  apart_form : (form other : Form) (m l : ℕ) → form ≢ other → block_at g v (at n form m) ≢ 0 → block_at g v (at n form m) ≢ block_at g v (at n other l)
+  apart_form : (form other : Form) (m l : ℕ) → form ≢ other → block_at g v (numbered n form m) ≢ 0 → block_at g v (numbered n form m) ≢ block_at g v (numbered n other l)
   apart_form form other m l far some same = far (form_of n m l form other (one_place g v n indices shape form other m l some same))
 
   other_double : (c : ℕ) → c ≢ d → double_block g v n c ≢ 0 → double_block g v n c ≢ t

@@ -11,8 +11,11 @@ use Rattle.edge_base.specs.layout.Places.{pointers_of, entries_of}
 use Rattle.edge_store.specs.View.{View, is_link, is_owned_by, entries_in, IsView}
 use Rattle.edge_store.specs.Placed.{entry_at, double_block, indirect_block, data_block, block_at}
 use Rattle.edge_store.proofs.ViewLaws.{unused_zero}
-use Rattle.edge_shape.specs.Shape.{HasShape, at, entries_at, data_in, indirect_in}
-use Rattle.edge_shape.specs.Trees.{in_tree, in_indirect, form_of_entry, IsSoundTree, IsSoundInode}
+use Rattle.edge_moves.specs.Relinks.{number_under}
+use Rattle.edge_moves.specs.Sound.{numbered}
+use Rattle.edge_store.specs.Damages.{form_of_entry}
+use Rattle.edge_shape.specs.Shape.{HasShape, entries_at}
+use Rattle.edge_shape.specs.Trees.{in_tree, in_indirect, IsSoundTree, IsSoundInode}
 use Rattle.edge_shape.specs.Cutting.{CutEntries}
 use Rattle.edge_shape.specs.Gone.{Pointers, gone, left, Unlinks, Leaves, KeepsSpots, entry_places}
 use Rattle.edge_shape.proofs.ListLaws.{list_found, is_false, true_false}
@@ -28,14 +31,14 @@ only e = record { entry = λ d. d == e; outer = λ d s. false; inner = λ j p. f
 
 module _ (g : Request) (v : View) (n : ℕ) (indices : List ℕ) (shape : HasShape g v n indices) where
   -- what hangs under an entry is gone where the entry is
-  pub under_entry : (taken : Pointers) (e : ℕ) (form : Form) (m : ℕ) → taken.entry e ≡ true → entry_at v n e ≢ 0 → block_at g v (at n form m) ≢ 0
-      → in_tree v (form_of_entry g e) (entry_at v n e) (block_at g v (at n form m)) ≡ true → gone g taken form m ≡ true
+  pub under_entry : (taken : Pointers) (e : ℕ) (form : Form) (m : ℕ) → taken.entry e ≡ true → entry_at v n e ≢ 0 → block_at g v (numbered n form m) ≢ 0
+      → in_tree v (form_of_entry g e) (entry_at v n e) (block_at g v (numbered n form m)) ≡ true → gone g taken form m ≡ true
   under_entry taken e form m lost some there h =
       let p = entry_position g v n e in
       under_gone g v n indices shape taken p.form form p.index m (p.gone_as taken ∙ lost) (λ none. some (p.block ∙ none)) there
-      (subst (λ (b : ℕ). in_tree v p.form b (block_at g v (at n form m)) ≡ true) p.block (subst (λ (f : Form). in_tree v f (entry_at v n e) (block_at g v (at n form m)) ≡ true) p.is_form h))
+      (subst (λ (b : ℕ). in_tree v p.form b (block_at g v (numbered n form m)) ≡ true) p.block (subst (λ (f : Form). in_tree v f (entry_at v n e) (block_at g v (numbered n form m)) ≡ true) p.is_form h))
 
-  pub sound_at : (form : Form) (m : ℕ) → block_at g v (at n form m) ≢ 0 → IsSoundTree g v form n (block_at g v (at n form m))
+  pub sound_at : (form : Form) (m : ℕ) → block_at g v (numbered n form m) ≢ 0 → IsSoundTree g v form n (block_at g v (numbered n form m))
   sound_at Plain m there = spot_at g v n indices shape Plain m there
   sound_at Indirect m there = let r = some_below g v n indices shape m there in sound_indirect g v n indices shape m there r.0 r.1 r.2
   sound_at Double m there = let r = some_node_below g v n indices shape m there in sound_double g v n indices shape m there r.0 r.1 (λ none. r.2 (sym (indirect_pointer g v n indices shape m there r.0 r.1) ∙ none))
@@ -49,11 +52,11 @@ module _ (g : Request) (v : View) (n : ℕ) (indices : List ℕ) (shape : HasSha
   entry_link e = let p = entry_position g v n e in ap (is_link g) p.block ∙ link_at g v n indices shape p.form p.index
 
   -- what hangs under a position has one
-  pub under_is : (form : Form) (m x : ℕ) → block_at g v (at n form m) ≢ 0 → x ≢ 0 → in_tree v form (block_at g v (at n form m)) x ≡ true → (other : Form) × (l : ℕ) × (block_at g v (at n other l) ≡ x)
+  pub under_is : (form : Form) (m x : ℕ) → block_at g v (numbered n form m) ≢ 0 → x ≢ 0 → in_tree v form (block_at g v (numbered n form m)) x ≡ true → (other : Form) × (l : ℕ) × (block_at g v (numbered n other l) ≡ x)
   under_is Plain m x some far h = (Plain, m, sym (eqb-true x (data_block g v n m) h))
   under_is Indirect m x some far h = elim (under_indirect g v n indices shape m some x h) [
     | inl is ↦ (Indirect, m, sym is)
-    | inr r ↦ (Plain, data_in g m r.0, r.2)
+    | inr r ↦ (Plain, number_under g Indirect m r.0, r.2)
   ]
   under_is Double m x some far h = elim (or_cases (x == double_block g v n m) (list_any (λ c. in_indirect v c x) (entries_at v Double (double_block g v n m))) h) [
     | inl is ↦ (Double, m, sym (eqb-true x (double_block g v n m) is))
@@ -63,8 +66,8 @@ module _ (g : Request) (v : View) (n : ℕ) (indices : List ℕ) (shape : HasSha
         elim (cases_eq (slice_index (entries_at v Double (double_block g v n m)) f.0) 0) [
           | inl none ↦ absurd (far (eqb-true x 0 (sym (tree_of_zero v Indirect x (unused_zero g v shape.view) (λ (e : Indirect ≡ Double). cc)) ∙ sym (ap (λ (c : ℕ). in_indirect v c x) none) ∙ f.2)))
           | inr there_s ↦ elim (under_pointer g v n indices shape m some f.0 x low there_s f.2) [
-            | inl is ↦ (Indirect, indirect_in g m f.0, sym is)
-            | inr r ↦ (Plain, data_in g (indirect_in g m f.0) r.0, r.2)
+            | inl is ↦ (Indirect, number_under g Double m f.0, sym is)
+            | inr r ↦ (Plain, number_under g Indirect (number_under g Double m f.0) r.0, r.2)
           ]
         ]
   ]
@@ -107,7 +110,7 @@ module _ (g : Request) (v : View) (n : ℕ) (indices : List ℕ) (shape : HasSha
         let p = entry_position g v n e in
         let found_x = under_is p.form p.index x (λ none. some_e (p.block ∙ none)) far
         (subst (λ (b : ℕ). in_tree v p.form b x ≡ true) p.block (subst (λ (f : Form). in_tree v f (entry_at v n e) x ≡ true) p.is_form under)) in
-        let there : block_at g v (at n found_x.0 found_x.1) ≢ 0 = λ none. far (sym found_x.2 ∙ none) in
+        let there : block_at g v (numbered n found_x.0 found_x.1) ≢ 0 = λ none. far (sym found_x.2 ∙ none) in
         let one = under_entry (only e) e found_x.0 found_x.1 (eq-eqb e e refl) some_e there (subst (λ (y : ℕ). in_tree v (form_of_entry g e) (entry_at v n e) y ≡ true) (sym found_x.2) under) in
         let two = under_entry (only d) d found_x.0 found_x.1 (eq-eqb d d refl) some_d there (subst (λ (y : ℕ). in_tree v (form_of_entry g d) (entry_at v n d) y ≡ true) (sym found_x.2) under_d) in
         let even : e ≡ d = sym (eqb-true (root found_x.0 found_x.1) e (sym (only_root e found_x.0 found_x.1) ∙ one)) ∙ eqb-true (root found_x.0 found_x.1) d (sym (only_root d found_x.0 found_x.1) ∙ two) in
@@ -123,9 +126,9 @@ module _ (g : Request) (v w : View) (n : ℕ) (indices : List ℕ) (shape : HasS
   within : (e : ℕ) → from ≤ e → e < entries_of g → (leb from e && ltb e (entries_of g)) ≡ true
   within e low high = grind (arith, nat_tests)
 
-  pub entries_untouched : (form : Form) (m : ℕ) → gone g taken form m ≡ false → block_at g v (at n form m) ≢ 0 → w.blocks (block_at g v (at n form m)) ≡ v.blocks (block_at g v (at n form m))
-  entries_untouched form m lost some = cut.kept (block_at g v (at n form m))
-      (λ e low high there_e. is_false (in_tree v (form_of_entry g e) (entry_at v n e) (block_at g v (at n form m)))
+  pub entries_untouched : (form : Form) (m : ℕ) → gone g taken form m ≡ false → block_at g v (numbered n form m) ≢ 0 → w.blocks (block_at g v (numbered n form m)) ≡ v.blocks (block_at g v (numbered n form m))
+  entries_untouched form m lost some = cut.kept (block_at g v (numbered n form m))
+      (λ e low high there_e. is_false (in_tree v (form_of_entry g e) (entry_at v n e) (block_at g v (numbered n form m)))
       (λ under. true_false (sym (under_entry g v n indices shape taken e form m (within e low high) there_e some under) ∙ lost)))
 
   pub entries_unlink : Unlinks g v w n taken

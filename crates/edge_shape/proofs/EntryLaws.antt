@@ -6,8 +6,8 @@ use Rattle.edge_base.specs.declared.form.Form.TheVariants.{Plain, Indirect, Doub
 use Rattle.edge_base.specs.declared.geometry.Request.{Request}
 use Rattle.edge_store.specs.View.{View}
 use Rattle.edge_store.specs.Placed.{entry_at, double_block, indirect_block, data_block, block_at}
-use Rattle.edge_shape.specs.Shape.{at}
-use Rattle.edge_shape.specs.Trees.{form_of_entry}
+use Rattle.edge_moves.specs.Sound.{numbered}
+use Rattle.edge_store.specs.Damages.{form_of_entry}
 use Rattle.edge_shape.specs.Gone.{Pointers, gone}
 
 -- the position that an entry leads to
@@ -15,7 +15,7 @@ pub record EntryPosition (g : Request) (v : View) (n e : ℕ) : Type 0 where
   pub form : Form
   pub index : ℕ
   pub is_form : form_of_entry g e ≡ form
-  pub block : entry_at v n e ≡ block_at g v (at n form index)
+  pub block : entry_at v n e ≡ block_at g v (numbered n form index)
   pub direct : form ≡ Plain → (index ≡ e) × (e < g.direct)
   pub single : form ≡ Indirect → (g.direct + index ≡ e) × (index < g.indirect)
   pub double : form ≡ Double → g.direct + g.indirect + index ≡ e

@@ -9,7 +9,8 @@ use Rattle.edge_base.specs.layout.Places.{pointers_of}
 use Rattle.edge_base.specs.tree.Chains.{is_on_chain}
 use Rattle.edge_store.specs.View.{View}
 use Rattle.edge_store.specs.Placed.{entry_at, pointer_at, double_block, indirect_block, data_block, block_at}
-use Rattle.edge_shape.specs.Shape.{at, entries_at}
+use Rattle.edge_moves.specs.Sound.{numbered}
+use Rattle.edge_shape.specs.Shape.{entries_at}
 use Rattle.edge_shape.specs.Gone.{Pointers, gone_double, gone_indirect, gone_data, gone, Unlinks}
 
 -- ---- where the blocks are
@@ -58,7 +59,7 @@ module _ (g : Request) (v w : View) (n : ℕ) (taken : Pointers) (un : Unlinks g
       by true = un.entries i
       by false = at_node Indirect _ _ _ _ _ (indirect_left _) (λ kept there. un.inner ((i - g.direct) / pointers_of g) ((i - g.direct) % pointers_of g) kept there)
 
-  pub block_left : (form : Form) (k : ℕ) → block_at g w (at n form k) ≡ cond (gone g taken form k) 0 (block_at g v (at n form k))
+  pub block_left : (form : Form) (k : ℕ) → block_at g w (numbered n form k) ≡ cond (gone g taken form k) 0 (block_at g v (numbered n form k))
   block_left Plain k = data_left k
   block_left Indirect k = indirect_left k
   block_left Double k = double_left k

@@ -10,7 +10,9 @@ use Rattle.edge_base.specs.layout.Places.{pointers_of}
 use Rattle.edge_base.specs.tree.Positions.{Position}
 use Rattle.edge_store.specs.View.{View, is_spot, is_whole, is_owned_by, entries_in, entries_of_inode, IsView}
 use Rattle.edge_store.specs.Placed.{double_block, indirect_block, data_block, block_at}
-use Rattle.edge_shape.specs.Shape.{HasShape, at, entries_at, data_in}
+use Rattle.edge_moves.specs.Relinks.{number_under}
+use Rattle.edge_moves.specs.Sound.{numbered}
+use Rattle.edge_shape.specs.Shape.{HasShape, entries_at}
 use Rattle.edge_shape.specs.Cutting.{CutPlaces}
 use Rattle.edge_shape.specs.Gone.{Pointers, gone_indirect, gone_data, left, Unlinks, Leaves, KeepsSpots, indirect_places}
 use Rattle.edge_shape.proofs.ListLaws.{is_false, true_false, apart_false}
@@ -18,10 +20,10 @@ use Rattle.edge_shape.proofs.SpotLaws.{content-same}
 use Rattle.edge_shape.proofs.ShapeLaws.{spot_at, one_place, data_pointer, some_below, some_node_below}
 use Rattle.edge_shape.proofs.LeaveLaws.{shape_left, gone_data-down}
 
-pub form_of : (n m l : ℕ) (form other : Form) → at n form m ≡ at n other l → form ≡ other
+pub form_of : (n m l : ℕ) (form other : Form) → numbered n form m ≡ numbered n other l → form ≡ other
 form_of n m l form other e = ap (λ (r : Position). r.form) e
 
-pub index_of : (n m l : ℕ) (form other : Form) → at n form m ≡ at n other l → m ≡ l
+pub index_of : (n m l : ℕ) (form other : Form) → numbered n form m ≡ numbered n other l → m ≡ l
 index_of n m l form other e = ap (λ (r : Position). r.index) e
 
 -- ---- an indirect node
@@ -46,13 +48,13 @@ module _ (g : Request) (v w : View) (n : ℕ) (indices : List ℕ) (shape : HasS
       by false = refl
 
   -- other blocks of the node are as they were
-  untouched : (form : Form) (m : ℕ) → block_at g v (at n form m) ≢ 0 → block_at g v (at n form m) ≢ b
-      → ((p : ℕ) → from ≤ p → p < k → at n form m ≡ at n Plain (data_in g j p) → ⊥) → w.blocks (block_at g v (at n form m)) ≡ v.blocks (block_at g v (at n form m))
-  untouched form m some apart other = cut.kept (block_at g v (at n form m)) apart
-      (λ p low high there_p. is_false (block_at g v (at n form m) == slice_index (entries_at v Indirect b) p)
-      (λ is. other p low high (one_place g v n indices shape form Plain m (data_in g j p) some (eqb-true _ _ is ∙ data_pointer g v n indices shape j there p high))))
+  untouched : (form : Form) (m : ℕ) → block_at g v (numbered n form m) ≢ 0 → block_at g v (numbered n form m) ≢ b
+      → ((p : ℕ) → from ≤ p → p < k → numbered n form m ≡ numbered n Plain (number_under g Indirect j p) → ⊥) → w.blocks (block_at g v (numbered n form m)) ≡ v.blocks (block_at g v (numbered n form m))
+  untouched form m some apart other = cut.kept (block_at g v (numbered n form m)) apart
+      (λ p low high there_p. is_false (block_at g v (numbered n form m) == slice_index (entries_at v Indirect b) p)
+      (λ is. other p low high (one_place g v n indices shape form Plain m (number_under g Indirect j p) some (eqb-true _ _ is ∙ data_pointer g v n indices shape j there p high))))
 
-  apart_form : (form other : Form) (m l : ℕ) → form ≢ other → block_at g v (at n form m) ≢ 0 → block_at g v (at n form m) ≢ block_at g v (at n other l)
+  apart_form : (form other : Form) (m l : ℕ) → form ≢ other → block_at g v (numbered n form m) ≢ 0 → block_at g v (numbered n form m) ≢ block_at g v (numbered n other l)
   apart_form form other m l far some same = far (form_of n m l form other (one_place g v n indices shape form other m l some same))
 
   pub indirect_unlinks : Unlinks g v w n taken
@@ -60,14 +62,14 @@ module _ (g : Request) (v w : View) (n : ℕ) (indices : List ℕ) (shape : HasS
     entries = λ e. ap (λ (inodes : ℕ → _). slice_index (entries_of_inode (inodes n)) e) cut.inodes;
     outer = λ d s lost some. ap (λ c. slice_index (entries_in c) s)
         (content-same v w Double (double_block g v n d) (untouched Double d some (apart_form Double Indirect d j (λ (e : Double ≡ Indirect). cc) some)
-        (λ p low high e. double_plain (form_of n d (data_in g j p) Double Plain e))));
+        (λ p low high e. double_plain (form_of n d (number_under g Indirect j p) Double Plain e))));
     inner = λ l p lost some. elim (cases_eq l j) [
       | inl is ↦ subst (λ (x : ℕ). slice_index (entries_at w Indirect (indirect_block g v n x)) p ≡ cond ((x == j) && (leb from p && ltb p k)) 0 (slice_index (entries_at v Indirect (indirect_block g v n x)) p)) (sym is)
           (cut.pointer p ∙ ap (λ t. cond (t && (leb from p && ltb p k)) 0 (slice_index (entries_at v Indirect b) p)) (sym (eq-eqb j j refl)))
       | inr away ↦
           ap (λ c. slice_index (entries_in c) p)
           (content-same v w Indirect (indirect_block g v n l) (untouched Indirect l some (λ same. away (index_of n l j Indirect Indirect (one_place g v n indices shape Indirect Indirect l j some same)))
-          (λ q low high e. indirect_plain (form_of n l (data_in g j q) Indirect Plain e))))
+          (λ q low high e. indirect_plain (form_of n l (number_under g Indirect j q) Indirect Plain e))))
           ∙ ap (λ t. cond (t && (leb from p && ltb p k)) 0 (slice_index (entries_at v Indirect (indirect_block g v n l)) p)) (sym (apart_false l j away))
     ];
   }
@@ -100,22 +102,22 @@ module _ (g : Request) (v w : View) (n : ℕ) (indices : List ℕ) (shape : HasS
       some_double d some = some_node_below g v n indices shape d some
 
   pub indirect_spots : KeepsSpots g v w n taken
-  indirect_spots Double m lost some = ap (is_owned_by n) (content-same v w Double _ (untouched Double m some (apart_form Double Indirect m j (λ (e : Double ≡ Indirect). cc) some) (λ p low high e. no (form_of n m (data_in g j p) Double Plain e)))) ∙ spot_at g v n indices shape Double m some
+  indirect_spots Double m lost some = ap (is_owned_by n) (content-same v w Double _ (untouched Double m some (apart_form Double Indirect m j (λ (e : Double ≡ Indirect). cc) some) (λ p low high e. no (form_of n m (number_under g Indirect j p) Double Plain e)))) ∙ spot_at g v n indices shape Double m some
     where
       no : Double ≢ Plain
       no e = cc
   indirect_spots Indirect m lost some = elim (cases_eq m j) [
     | inl is ↦ subst (λ (x : ℕ). is_spot w Indirect n (indirect_block g v n x) ≡ true) (sym is) cut.spot
-    | inr away ↦ ap (is_owned_by n) (content-same v w Indirect _ (untouched Indirect m some (λ same. away (index_of n m j Indirect Indirect (one_place g v n indices shape Indirect Indirect m j some same))) (λ p low high e. no (form_of n m (data_in g j p) Indirect Plain e)))) ∙ spot_at g v n indices shape Indirect m some
+    | inr away ↦ ap (is_owned_by n) (content-same v w Indirect _ (untouched Indirect m some (λ same. away (index_of n m j Indirect Indirect (one_place g v n indices shape Indirect Indirect m j some same))) (λ p low high e. no (form_of n m (number_under g Indirect j p) Indirect Plain e)))) ∙ spot_at g v n indices shape Indirect m some
   ]
     where
       no : Indirect ≢ Plain
       no e = cc
   indirect_spots Plain m lost some =
       ap (is_owned_by n) (content-same v w Plain _ (untouched Plain m some (apart_form Plain Indirect m j (λ (e : Plain ≡ Indirect). cc) some)
-      (λ p low high e. not_gone p low high (sym (ap (gone_data g taken) (index_of n m (data_in g j p) Plain Plain e)) ∙ lost)))) ∙ spot_at g v n indices shape Plain m some
+      (λ p low high e. not_gone p low high (sym (ap (gone_data g taken) (index_of n m (number_under g Indirect j p) Plain Plain e)) ∙ lost)))) ∙ spot_at g v n indices shape Plain m some
     where
-      not_gone : (p : ℕ) → from ≤ p → p < k → gone_data g taken (data_in g j p) ≡ false → ⊥
+      not_gone : (p : ℕ) → from ≤ p → p < k → gone_data g taken (number_under g Indirect j p) ≡ false → ⊥
       not_gone p low high e = true_false (sym (gone_data-down g taken j p high ∙ (λ i. no_indirect j i || here p low high i)) ∙ e)
         where
           here : (p : ℕ) → from ≤ p → p < k → ((j == j) && (leb from p && ltb p k)) ≡ true

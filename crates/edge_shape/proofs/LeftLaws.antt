@@ -9,12 +9,14 @@ use Rattle.edge_base.specs.declared.geometry.Request.{Request}
 use Rattle.edge_base.specs.layout.Places.{entries_of, pointers_of}
 use Rattle.edge_store.specs.View.{View, IsView, is_whole}
 use Rattle.edge_store.specs.Placed.{entry_at, double_block, indirect_block, data_block}
-use Rattle.edge_shape.specs.Shape.{HasShape, entries_at, data_in, indirect_in, before, outside, HasBetween}
+use Rattle.edge_moves.specs.Relinks.{number_under}
+use Rattle.edge_shape.specs.Shape.{HasShape, entries_at, before, outside, HasBetween}
 use Rattle.edge_shape.specs.Gone.{gone_data, left, entry_places}
 use Rattle.edge_shape.specs.Cutting.{CutPlaces}
 use Rattle.edge_shape.specs.Where.{first_in_entry}
 use Rattle.edge_shape.proofs.ListLaws.{filter-members}
-use Rattle.edge_shape.proofs.SpotLaws.{some_pointers, pointer_there}
+use Rattle.edge_moves.proofs.SlotLaws.{some_pointers_fit}
+use Rattle.edge_shape.proofs.SpotLaws.{pointer_there}
 use Rattle.edge_shape.proofs.ShapeLaws.{entry_there, data_above, data_down, indirect_down, data_pointer, indirect_pointer, some_below}
 use Rattle.edge_shape.proofs.LeaveLaws.{index_there, index_listed}
 use Rattle.edge_shape.proofs.IndirectCutLaws.{indirect_cut}
@@ -25,7 +27,7 @@ module _ (g : Request) (v : View) (n : ℕ) (indices : List ℕ) (shape : HasSha
   k = pointers_of g
 
   pub some : 0 < pointers_of g
-  some = some_pointers g shape.geometry
+  some = some_pointers_fit g shape.geometry
 
   zero_le : (m : ℕ) → 0 ≤ m
   zero_le m = omega arith
@@ -33,58 +35,58 @@ module _ (g : Request) (v : View) (n : ℕ) (indices : List ℕ) (shape : HasSha
   -- ---- indices and the pointers above them
 
   -- an index in a range of places of an indirect node has a pointer there
-  pub in_node : (j from upto : ℕ) → upto ≤ k → HasBetween indices (data_in g j from) (data_in g j upto)
+  pub in_node : (j from upto : ℕ) → upto ≤ k → HasBetween indices (number_under g Indirect j from) (number_under g Indirect j upto)
       → (q : ℕ) × (from ≤ q) × (q < upto) × (indirect_block g v n j ≢ 0) × (slice_index (entries_at v Indirect (indirect_block g v n j)) q ≢ 0)
   in_node j from upto most between =
       let x = between.0 in
       let low : g.direct + (j * k + from) ≤ x = between.2 in
       let high : x < g.direct + (j * k + upto) = between.3 in
       let q : ℕ = x - (g.direct + j * k) in
-      let is : data_in g j q ≡ x = omega arith in
+      let is : number_under g Indirect j q ≡ x = omega arith in
       let q_low : q < k = omega arith in
-      let there : data_block g v n (data_in g j q) ≢ 0 = subst (λ (y : ℕ). data_block g v n y ≢ 0) (sym is) (index_there g v n indices shape x between.1) in
+      let there : data_block g v n (number_under g Indirect j q) ≢ 0 = subst (λ (y : ℕ). data_block g v n y ≢ 0) (sym is) (index_there g v n indices shape x between.1) in
       let node : indirect_block g v n j ≢ 0 = pointer_there v Indirect (indirect_block g v n j) q (λ none. there (data_down g v n indices shape j q q_low ∙ none)) in
       (q, (let e : from ≤ q = omega arith in e), (let e : q < upto = omega arith in e), node, λ none. there (sym (data_pointer g v n indices shape j node q q_low) ∙ none))
 
   pub from_node : (j from upto q : ℕ) → upto ≤ k → from ≤ q → q < upto → indirect_block g v n j ≢ 0 → slice_index (entries_at v Indirect (indirect_block g v n j)) q ≢ 0
-      → HasBetween indices (data_in g j from) (data_in g j upto)
+      → HasBetween indices (number_under g Indirect j from) (number_under g Indirect j upto)
   from_node j from upto q most low high node there = (
-    data_in g j q,
-    index_listed g v n indices shape (data_in g j q) (λ none. there (data_pointer g v n indices shape j node q (omega arith) ∙ none)),
-    (let e : data_in g j from ≤ data_in g j q = omega arith in e),
-    (let e : data_in g j q < data_in g j upto = omega arith in e),
+    number_under g Indirect j q,
+    index_listed g v n indices shape (number_under g Indirect j q) (λ none. there (data_pointer g v n indices shape j node q (omega arith) ∙ none)),
+    (let e : number_under g Indirect j from ≤ number_under g Indirect j q = omega arith in e),
+    (let e : number_under g Indirect j q < number_under g Indirect j upto = omega arith in e),
   )
 
   -- one in a range of places of a double-indirect node too
-  pub in_double : (d from upto : ℕ) → upto ≤ k → HasBetween indices (data_in g (indirect_in g d from) 0) (data_in g (indirect_in g d upto) 0)
+  pub in_double : (d from upto : ℕ) → upto ≤ k → HasBetween indices (number_under g Indirect (number_under g Double d from) 0) (number_under g Indirect (number_under g Double d upto) 0)
       → (s : ℕ) × (from ≤ s) × (s < upto) × (double_block g v n d ≢ 0) × (slice_index (entries_at v Double (double_block g v n d)) s ≢ 0)
   in_double d from upto most between =
       let x = between.0 in
-      let low : g.direct + (indirect_in g d from * k + 0) ≤ x = between.2 in
-      let high : x < g.direct + (indirect_in g d upto * k + 0) = between.3 in
-      let past : g.direct ≤ x = omega (arith, zero_le (indirect_in g d from * k)) in
+      let low : g.direct + (number_under g Double d from * k + 0) ≤ x = between.2 in
+      let high : x < g.direct + (number_under g Double d upto * k + 0) = between.3 in
+      let past : g.direct ≤ x = omega (arith, zero_le (number_under g Double d from * k)) in
       let r : ℕ = (x - g.direct) / k in
-      let r_low : g.indirect + (d * k + from) ≤ r = from_row g.direct k some (indirect_in g d from) x past (let e : g.direct + indirect_in g d from * k ≤ x = omega arith in e) in
-      let r_high : r < g.indirect + (d * k + upto) = below_row g.direct k some (indirect_in g d upto) x past (let e : x < g.direct + indirect_in g d upto * k = omega arith in e) in
+      let r_low : g.indirect + (d * k + from) ≤ r = from_row g.direct k some (number_under g Double d from) x past (let e : g.direct + number_under g Double d from * k ≤ x = omega arith in e) in
+      let r_high : r < g.indirect + (d * k + upto) = below_row g.direct k some (number_under g Double d upto) x past (let e : x < g.direct + number_under g Double d upto * k = omega arith in e) in
       let s : ℕ = r - (g.indirect + d * k) in
-      let is : indirect_in g d s ≡ r = omega arith in
+      let is : number_under g Double d s ≡ r = omega arith in
       let s_low : s < k = omega arith in
-      let there : indirect_block g v n (indirect_in g d s) ≢ 0 = subst (λ (y : ℕ). indirect_block g v n y ≢ 0) (sym is) (data_above g v n indices shape x past (index_there g v n indices shape x between.1)) in
+      let there : indirect_block g v n (number_under g Double d s) ≢ 0 = subst (λ (y : ℕ). indirect_block g v n y ≢ 0) (sym is) (data_above g v n indices shape x past (index_there g v n indices shape x between.1)) in
       let node : double_block g v n d ≢ 0 = pointer_there v Double (double_block g v n d) s (λ none. there (indirect_down g v n indices shape d s s_low ∙ none)) in
       (s, (let e : from ≤ s = omega arith in e), (let e : s < upto = omega arith in e), node, λ none. there (sym (indirect_pointer g v n indices shape d node s s_low) ∙ none))
 
   pub from_double : (d from upto s : ℕ) → upto ≤ k → from ≤ s → s < upto → double_block g v n d ≢ 0 → slice_index (entries_at v Double (double_block g v n d)) s ≢ 0
-      → HasBetween indices (data_in g (indirect_in g d from) 0) (data_in g (indirect_in g d upto) 0)
+      → HasBetween indices (number_under g Indirect (number_under g Double d from) 0) (number_under g Indirect (number_under g Double d upto) 0)
   from_double d from upto s most low high node there =
-      let r = some_below g v n indices shape (indirect_in g d s) (λ none. there (indirect_pointer g v n indices shape d node s (omega arith) ∙ none)) in
+      let r = some_below g v n indices shape (number_under g Double d s) (λ none. there (indirect_pointer g v n indices shape d node s (omega arith) ∙ none)) in
       let place : r.0 < k = r.1 in
-      let up : indirect_in g d from * k ≤ indirect_in g d s * k = mul-le-mul_right k (let e : indirect_in g d from ≤ indirect_in g d s = omega arith in e) in
-      let next : (indirect_in g d s + 1) * k ≤ indirect_in g d upto * k = mul-le-mul_right k (let e : indirect_in g d s + 1 ≤ indirect_in g d upto = omega arith in e) in
-      let one : (indirect_in g d s + 1) * k ≡ indirect_in g d s * k + k = one_row (indirect_in g d s) k in (
-        data_in g (indirect_in g d s) r.0,
-        index_listed g v n indices shape (data_in g (indirect_in g d s) r.0) r.2,
-        (let e : data_in g (indirect_in g d from) 0 ≤ data_in g (indirect_in g d s) r.0 = omega arith in e),
-        (let e : data_in g (indirect_in g d s) r.0 < data_in g (indirect_in g d upto) 0 = omega arith in e),
+      let up : number_under g Double d from * k ≤ number_under g Double d s * k = mul-le-mul_right k (let e : number_under g Double d from ≤ number_under g Double d s = omega arith in e) in
+      let next : (number_under g Double d s + 1) * k ≤ number_under g Double d upto * k = mul-le-mul_right k (let e : number_under g Double d s + 1 ≤ number_under g Double d upto = omega arith in e) in
+      let one : (number_under g Double d s + 1) * k ≡ number_under g Double d s * k + k = one_row (number_under g Double d s) k in (
+        number_under g Indirect (number_under g Double d s) r.0,
+        index_listed g v n indices shape (number_under g Indirect (number_under g Double d s) r.0) r.2,
+        (let e : number_under g Indirect (number_under g Double d from) 0 ≤ number_under g Indirect (number_under g Double d s) r.0 = omega arith in e),
+        (let e : number_under g Indirect (number_under g Double d s) r.0 < number_under g Indirect (number_under g Double d upto) 0 = omega arith in e),
       )
     where
       one_row : (m w : ℕ) → (m + 1) * w ≡ m * w + w
@@ -118,8 +120,8 @@ module _ (g : Request) (v : View) (n : ℕ) (indices : List ℕ) (shape : HasSha
 
   module _ (w : View) (view : IsView g w) where
     -- an indirect node is cut from a place on, and something before it stays
-    pub node_left : (j from : ℕ) → from ≤ k → HasBetween indices (data_in g j 0) (data_in g j from) → CutPlaces v w Indirect n (indirect_block g v n j) from k
-        → HasShape g w n (outside (data_in g j from) (data_in g j k) indices)
+    pub node_left : (j from : ℕ) → from ≤ k → HasBetween indices (number_under g Indirect j 0) (number_under g Indirect j from) → CutPlaces v w Indirect n (indirect_block g v n j) from k
+        → HasShape g w n (outside (number_under g Indirect j from) (number_under g Indirect j k) indices)
     node_left j from most stays cut =
         let r = in_node j 0 from most stays in
         subst (HasShape g w n) (λ i. filter (λ x. not (gone-indirect_places g some j from k x (omega arith) i)) indices)

@@ -3,14 +3,13 @@ pub mod SpotLaws
 pub mod LeadLaws
 pub mod GoneLaws
 pub mod ShapeLaws
+pub mod MemberLaws
 pub mod LeaveLaws
 pub mod IndirectCutLaws
 pub mod DoubleCutLaws
 pub mod EntryCutLaws
 pub mod EntryLaws
-pub mod OneMovedLaws
-pub mod MoveEntryLaws
-pub mod MovePointerLaws
+pub mod MovedLaws
 pub mod RangeLaws
 pub mod LeftLaws
 pub mod OwnLaws
@@ -20,4 +19,6 @@ pub mod WithinLaws
 pub mod TrimLaws
 pub mod TailLaws
 pub mod RenewLaws
+pub mod AfterLaws
+pub mod SplitLaws
 pub mod BlockLaws

@@ -1,21 +1,23 @@
 -- A node whose pointer nodes are made new one by one, from the entry down.
 use Rattle.std.proofs.Common.{◌≡◌, ◌≢◌, ℕ, ◌+◌, ◌-◌, ◌<◌, ◌≤◌, true, ltb, List, sym, ap, ◌∙◌, subst, arith, inl, inr}
-use Rattle.std.specs.Prelude.{slice_index}
 use Rattle.std.proofs.lemmas.Bool.{lt-ltb, le-ltb, cond-true, cond-false}
 use Rattle.edge_base.specs.declared.form.Form.{Form}
 use Rattle.edge_base.specs.declared.form.Form.TheVariants.{Plain, Indirect, Double}
 use Rattle.edge_base.specs.declared.geometry.Request.{Request}
 use Rattle.edge_base.specs.layout.Places.{pointers_of}
+use Rattle.edge_base.proofs.PositionLaws.{same_position_equiv}
 use Rattle.edge_store.specs.View.{View, IsView, is_spot, is_link}
-use Rattle.edge_store.specs.Placed.{entry_at, double_block, indirect_block, block_at}
-use Rattle.edge_shape.specs.Shape.{HasShape, at, entries_at}
-use Rattle.edge_shape.specs.Trees.{below, form_of_entry}
-use Rattle.edge_shape.specs.Moved.{OwnsEntry, OwnsPointer}
-use Rattle.edge_shape.proofs.ShapeLaws.{spot_at, link_at}
+use Rattle.edge_store.specs.Placed.{entry_at, pointer_at, double_block, indirect_block, block_at}
+use Rattle.edge_moves.specs.Sound.{numbered}
+use Rattle.edge_moves.specs.Relinks.{number_under}
+use Rattle.edge_moves.specs.Renewal.{EntryRenewed, PointerRenewed}
+use Rattle.edge_moves.proofs.SpentLaws.{entry_leads}
+use Rattle.edge_store.specs.Damages.{form_of_entry, form_under}
+use Rattle.edge_shape.specs.Shape.{HasShape}
+use Rattle.edge_shape.proofs.ListLaws.{is_false}
+use Rattle.edge_shape.proofs.ShapeLaws.{entry_there, spot_at, link_at}
 use Rattle.edge_shape.proofs.EntryLaws.{entry_position}
-use Rattle.edge_shape.proofs.MoveEntryLaws.{entry_moved, entry_here}
-use Rattle.edge_shape.proofs.MovePointerLaws.{index_below, down, pointer_moved, top_stays, moved_there}
-use Rattle.edge_shape.proofs.SpotLaws.{pointer_is}
+use Rattle.edge_shape.proofs.MovedLaws.{here_is, to_here, to_other, entry_moved, pointer_at_is, under_is_there, form_apart, pointer_step_of, pointer_moved}
 
 -- ---- the pointer nodes of entries
 
@@ -48,29 +50,35 @@ module _ (g : Request) (c v w : View) (n : ℕ) (indices : List ℕ) (shape : Ha
 
   -- ---- the block of an entry made new
 
-  pub owns_entry : (e b : ℕ) (f : Form) → form_of_entry g e ≡ f → entry_at v n e ≢ 0 → OwnsEntry g c v w n e f b → IsView g w → HasShape g w n indices × (entry_at w n e ≡ b)
-  owns_entry e b f is there own view = by (subst (λ (a : Form). OwnsEntry g c v w n e a b) (sym is) own)
+  pub owns_entry : (e b : ℕ) → entry_at v n e ≢ 0 → EntryRenewed g c v w n e b → IsView g w → HasShape g w n indices × (entry_at w n e ≡ b)
+  owns_entry e b there own view = (by own, sym (entry_leads g c v w n e b shape.view shape.inode (entry_there g v n indices shape e there) own))
     where
-      by : OwnsEntry g c v w n e (form_of_entry g e) b → HasShape g w n indices × (entry_at w n e ≡ b)
-      by o = elim o.steps [
-        | inl same ↦ (subst (λ (u : View). HasShape g u n indices) (sym same.2) shape, ap (λ (u : View). entry_at u n e) same.2 ∙ sym same.1)
-        | inr moved ↦ (entry_moved g c v w n indices shape e b there moved.1 view, entry_here g c v w n indices shape e b there moved.1 view)
-      ]
+      by : EntryRenewed g c v w n e b → HasShape g w n indices
+      by (inl kept) = subst (λ (u : View). HasShape g u n indices) (sym kept.view) shape
+      by (inr was) = entry_moved g c v w n indices shape view e b there was
 
   -- ---- the block in a place of a pointer node made new
 
-  pub owns_pointer : (up : Form) (m place b : ℕ) → up ≢ Plain → place < pointers_of g → block_at g v (at n up m) ≢ 0 → slice_index (entries_at v up (block_at g v (at n up m))) place ≢ 0
-      → OwnsPointer g c v w up n (block_at g v (at n up m)) place (below up) b → IsView g w
-      → HasShape g w n indices × (block_at g w (at n up m) ≡ block_at g v (at n up m)) × (block_at g w (at n (below up) (index_below g up m place)) ≡ b)
-  owns_pointer up m place b node low top some own view = elim own.steps [
-    | inl same ↦ (
-      subst (λ (u : View). HasShape g u n indices) (sym same.2) shape,
-      ap (λ (u : View). block_at g u (at n up m)) same.2,
-      ap (λ (u : View). block_at g u (at n (below up) (index_below g up m place))) same.2 ∙ down g v n indices shape up m place node low ∙ pointer_is v up (block_at g v (at n up m)) place top ∙ sym same.1,
-    )
-    | inr moved ↦ (
-      pointer_moved g c v w n indices shape up m place b node low top some moved.1 view,
-      top_stays g c v w n indices shape up m place b node low top some moved.1 view,
-      moved_there g c v w n indices shape up m place b node low top some moved.1 view,
-    )
-  ]
+  pub owns_pointer : (up : Form) (m place b : ℕ) → up ≢ Plain → place < pointers_of g → block_at g v (numbered n up m) ≢ 0 → pointer_at v up (block_at g v (numbered n up m)) place ≢ 0
+      → PointerRenewed g c v w up n (block_at g v (numbered n up m)) place b → IsView g w
+      → HasShape g w n indices × (block_at g w (numbered n up m) ≡ block_at g v (numbered n up m)) × (block_at g w (numbered n (form_under up) (number_under g up m place)) ≡ b)
+  owns_pointer up m place b node low top some own view = by own
+    where
+      by : PointerRenewed g c v w up n (block_at g v (numbered n up m)) place b
+          → HasShape g w n indices × (block_at g w (numbered n up m) ≡ block_at g v (numbered n up m)) × (block_at g w (numbered n (form_under up) (number_under g up m place)) ≡ b)
+      by (inl kept) = (
+        subst (λ (u : View). HasShape g u n indices) (sym kept.view) shape,
+        ap (λ (u : View). block_at g u (numbered n up m)) kept.view,
+        ap (λ (u : View). block_at g u (numbered n (form_under up) (number_under g up m place))) kept.view
+            ∙ sym (pointer_at_is g c v w n indices shape view up m place b node low top some) ∙ sym kept.same,
+      )
+      by (inr was) =
+          let f = form_under up in
+          let j = number_under g up m place in
+          let top_block = block_at g v (numbered n up m) in
+          let there = under_is_there g c v w n indices shape view up m place b node low top some in
+          let step = pointer_step_of g c v w n indices shape view up m place b node low top some was in (
+            pointer_moved g c v w n indices shape view up m place b node low top some was,
+            to_other g c v w n indices shape f j b top_block there step up m (is_false _ (λ on. form_apart g c v w n indices shape view up m place b node low top some up node (ap (λ p. p.form) (here_is g c v w n indices shape f j b top_block there step up m on)))),
+            to_here g c v w n indices shape f j b top_block there step f j (same_position_equiv.refl (numbered n f j)),
+          )

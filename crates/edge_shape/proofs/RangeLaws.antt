@@ -9,7 +9,7 @@ use Rattle.edge_base.specs.declared.geometry.Request.{Request}
 use Rattle.edge_base.specs.declared.form.Form.TheVariants.{Indirect, Double}
 use Rattle.edge_base.specs.tree.Chains.{is_on_chain}
 use Rattle.edge_base.specs.layout.Places.{pointers_of}
-use Rattle.edge_shape.specs.Shape.{data_in, indirect_in}
+use Rattle.edge_moves.specs.Relinks.{number_under}
 use Rattle.edge_shape.specs.Gone.{gone_indirect, gone_data, indirect_places, double_places, entry_places}
 use Rattle.edge_shape.specs.Where.{first_in_entry}
 
@@ -102,16 +102,16 @@ module _ (g : Request) (some : 0 < pointers_of g) where
   and_true true u h = sym h
   and_true false u h = refl
 
-  pub on_indirect-range : (j x : ℕ) → is_on_chain g Indirect j x ≡ (leb (data_in g j 0) x && ltb x (data_in g j (pointers_of g)))
+  pub on_indirect-range : (j x : ℕ) → is_on_chain g Indirect j x ≡ (leb (number_under g Indirect j 0) x && ltb x (number_under g Indirect j (pointers_of g)))
   on_indirect-range j x =
       (λ i. not (ltb x g.direct) && and_true ((x - g.direct) / pointers_of g == j) _ (whole_row x g.direct) i)
       ∙ places_range g.direct (pointers_of g) some j 0 (pointers_of g) x (omega arith)
 
-  pub on_double-range : (d x : ℕ) → is_on_chain g Double d x ≡ (leb (data_in g (indirect_in g d 0) 0) x && ltb x (data_in g (indirect_in g d (pointers_of g)) 0))
+  pub on_double-range : (d x : ℕ) → is_on_chain g Double d x ≡ (leb (number_under g Indirect (number_under g Double d 0) 0) x && ltb x (number_under g Indirect (number_under g Double d (pointers_of g)) 0))
   on_double-range d x =
       (λ i. not (ltb x g.direct) && (not (ltb ((x - g.direct) / pointers_of g) g.indirect) && and_true (((x - g.direct) / pointers_of g - g.indirect) / pointers_of g == d) _ (whole_row ((x - g.direct) / pointers_of g) g.indirect) i))
       ∙ (λ i. not (ltb x g.direct) && places_range g.indirect (pointers_of g) some d 0 (pointers_of g) ((x - g.direct) / pointers_of g) (omega arith) i)
-      ∙ rows_range g.direct (pointers_of g) some (indirect_in g d 0) (indirect_in g d (pointers_of g)) x
+      ∙ rows_range g.direct (pointers_of g) some (number_under g Double d 0) (number_under g Double d (pointers_of g)) x
 
 -- ---- what is gone is a range
 
@@ -122,7 +122,7 @@ module _ (g : Request) (some : 0 < pointers_of g) where
   abbrev row : ℕ → ℕ
   row x = (x - g.direct) / k
 
-  pub gone-indirect_places : (j from upto x : ℕ) → upto ≤ k → gone_data g (indirect_places j from upto) x ≡ (leb (data_in g j from) x && ltb x (data_in g j upto))
+  pub gone-indirect_places : (j from upto x : ℕ) → upto ≤ k → gone_data g (indirect_places j from upto) x ≡ (leb (number_under g Indirect j from) x && ltb x (number_under g Indirect j upto))
   gone-indirect_places j from upto x most = by (ltb x g.direct) (ltb (row x) g.indirect) ∙ places_range g.direct k some j from upto x most
     where
       by : (t u : Bool) → cond t false (cond u false (false || false) || ((row x == j) && (leb from ((x - g.direct) % k) && ltb ((x - g.direct) % k) upto))) ≡ (not t && ((row x == j) && (leb from ((x - g.direct) % k) && ltb ((x - g.direct) % k) upto)))
@@ -130,7 +130,7 @@ module _ (g : Request) (some : 0 < pointers_of g) where
       by false true = refl
       by false false = refl
 
-  pub gone_indirect-double_places : (d from upto m : ℕ) → upto ≤ k → gone_indirect g (double_places d from upto) m ≡ (leb (indirect_in g d from) m && ltb m (indirect_in g d upto))
+  pub gone_indirect-double_places : (d from upto m : ℕ) → upto ≤ k → gone_indirect g (double_places d from upto) m ≡ (leb (number_under g Double d from) m && ltb m (number_under g Double d upto))
   gone_indirect-double_places d from upto m most = by (ltb m g.indirect) ∙ places_range g.indirect k some d from upto m most
     where
       by : (u : Bool) → cond u false (false || (((m - g.indirect) / k == d) && (leb from ((m - g.indirect) % k) && ltb ((m - g.indirect) % k) upto)))
@@ -139,9 +139,9 @@ module _ (g : Request) (some : 0 < pointers_of g) where
       by false = refl
 
   pub gone-double_places : (d from upto x : ℕ) → upto ≤ k
-      → gone_data g (double_places d from upto) x ≡ (leb (data_in g (indirect_in g d from) 0) x && ltb x (data_in g (indirect_in g d upto) 0))
+      → gone_data g (double_places d from upto) x ≡ (leb (number_under g Indirect (number_under g Double d from) 0) x && ltb x (number_under g Indirect (number_under g Double d upto) 0))
   gone-double_places d from upto x most =
-      by (ltb x g.direct) (ltb (row x) g.indirect) ∙ (λ i. not (ltb x g.direct) && places_range g.indirect k some d from upto (row x) most i) ∙ rows_range g.direct k some (indirect_in g d from) (indirect_in g d upto) x
+      by (ltb x g.direct) (ltb (row x) g.indirect) ∙ (λ i. not (ltb x g.direct) && places_range g.indirect k some d from upto (row x) most i) ∙ rows_range g.direct k some (number_under g Double d from) (number_under g Double d upto) x
     where
       by : (t u : Bool) → cond t false (cond u false (false || (((row x - g.indirect) / k == d) && (leb from ((row x - g.indirect) % k) && ltb ((row x - g.indirect) % k) upto))) || false)
           ≡ (not t && (not u && (((row x - g.indirect) / k == d) && (leb from ((row x - g.indirect) % k) && ltb ((row x - g.indirect) % k) upto))))
@@ -169,10 +169,10 @@ module _ (g : Request) (some : 0 < pointers_of g) where
   pub first-direct : (e : ℕ) → e < g.direct → first_in_entry g e ≡ e
   first-direct e low = cond-true (ltb e g.direct) _ _ (lt-ltb e g.direct low)
 
-  pub first-single : (e : ℕ) → g.direct ≤ e → e < g.direct + g.indirect → first_in_entry g e ≡ data_in g (e - g.direct) 0
+  pub first-single : (e : ℕ) → g.direct ≤ e → e < g.direct + g.indirect → first_in_entry g e ≡ number_under g Indirect (e - g.direct) 0
   first-single e past low = cond-false (ltb e g.direct) _ _ (le-ltb e g.direct past) ∙ cond-true (ltb e (g.direct + g.indirect)) _ _ (lt-ltb e (g.direct + g.indirect) low)
 
-  pub first-double : (e : ℕ) → g.direct + g.indirect ≤ e → first_in_entry g e ≡ data_in g (indirect_in g (e - g.direct - g.indirect) 0) 0
+  pub first-double : (e : ℕ) → g.direct + g.indirect ≤ e → first_in_entry g e ≡ number_under g Indirect (number_under g Double (e - g.direct - g.indirect) 0) 0
   first-double e past = cond-false (ltb e g.direct) _ _ (le-ltb e g.direct (omega arith)) ∙ cond-false (ltb e (g.direct + g.indirect)) _ _ (le-ltb e (g.direct + g.indirect) past)
 
   zero_le : (m : ℕ) → 0 ≤ m

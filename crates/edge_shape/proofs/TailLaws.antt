@@ -4,8 +4,9 @@ use Rattle.edge_base.specs.declared.form.Form.TheVariants.{Indirect, Double}
 use Rattle.edge_base.specs.declared.geometry.Request.{Request}
 use Rattle.edge_base.specs.layout.Places.{pointers_of}
 use Rattle.edge_store.specs.View.{View, IsView}
+use Rattle.edge_moves.specs.Relinks.{number_under}
 use Rattle.edge_shape.specs.declared.cut.Cut.TheVariants.{Whole, Node, Top, Both}
-use Rattle.edge_shape.specs.Shape.{HasShape, data_in, indirect_in, before, outside}
+use Rattle.edge_shape.specs.Shape.{HasShape, before, outside}
 use Rattle.edge_shape.specs.Cutting.{CutPlaces}
 use Rattle.edge_shape.specs.Trimmed.{Trims}
 use Rattle.edge_shape.specs.Where.{first_gone, GoesThrough}
@@ -27,8 +28,8 @@ module _ (g : Request) (c v : View) (n : ℕ) (indices : List ℕ) (shape : HasS
       let owned = node_owned g c v n indices shape entry place t.0 t.1 t.2 t.3 s.owned s.block s.own s.owned_view in
       let is = is_block g c v n indices shape entry place t.0 t.1 t.2 t.3 s.owned s.block s.own s.owned_view in
       let sound = node_sound g c v n indices shape entry place t.0 t.1 t.2 t.3 s.owned s.block s.own s.owned_view in
-      let lo = data_in g (entry - g.direct) place in
-      let high = data_in g (entry - g.direct) (pointers_of g) in
+      let lo = number_under g Indirect (entry - g.direct) place in
+      let high = number_under g Indirect (entry - g.direct) (pointers_of g) in
       let one = node_trims g s.owned s.trimmed n indices owned s.trimmed_view (entry - g.direct) place t.2 t.3 (subst (λ (b : ℕ). CutPlaces s.owned s.trimmed Indirect n b place (pointers_of g)) (sym is) (s.cut sound)) in
       let two = entries_trims g s.trimmed w n (outside lo high indices) one.shape view (entry + 1) (s.rest (sound_inode g s.trimmed n (outside lo high indices) one.shape (entry + 1))) in
       let most : place ≤ pointers_of g = t.2 in
@@ -41,8 +42,8 @@ module _ (g : Request) (c v : View) (n : ℕ) (indices : List ℕ) (shape : HasS
       let is = is_top g c v n indices shape entry place t.0 t.1 t.2 s.owned s.block s.own s.owned_view in
       let sound = top_sound g c v n indices shape entry place t.0 t.1 t.2 s.owned s.block s.own s.owned_view in
       let d : ℕ = entry - g.direct - g.indirect in
-      let lo = data_in g (indirect_in g d place) 0 in
-      let high = data_in g (indirect_in g d (pointers_of g)) 0 in
+      let lo = number_under g Indirect (number_under g Double d place) 0 in
+      let high = number_under g Indirect (number_under g Double d (pointers_of g)) 0 in
       let one = top_trims g s.owned s.trimmed n indices owned s.trimmed_view d place t.1 t.2 (subst (λ (b : ℕ). CutPlaces s.owned s.trimmed Double n b place (pointers_of g)) (sym is) (s.cut sound)) in
       let two = entries_trims g s.trimmed w n (outside lo high indices) one.shape view (entry + 1) (s.rest (sound_inode g s.trimmed n (outside lo high indices) one.shape (entry + 1))) in
       subst (Trims g s.owned w n indices) (ap (λ (m : ℕ). before m (outside lo high indices)) (double_end g positive entry t.0) ∙ two_ranges lo high indices (places_up g positive d place (pointers_of g) t.1))
@@ -51,11 +52,11 @@ module _ (g : Request) (c v : View) (n : ℕ) (indices : List ℕ) (shape : HasS
   pub both_tail : (entry outer place : ℕ) → GoesThrough g indices (Both entry outer place) → (s : BothSteps g c v w n entry outer place) → Trims g s.two w n indices (before (first_gone g (Both entry outer place)) indices)
   both_tail entry outer place t s =
       let d : ℕ = entry - g.direct - g.indirect in
-      let node : ℕ = indirect_in g d outer in
-      let lo = data_in g node place in
-      let mid = data_in g node (pointers_of g) in
-      let from = data_in g (indirect_in g d (outer + 1)) 0 in
-      let high = data_in g (indirect_in g d (pointers_of g)) 0 in
+      let node : ℕ = number_under g Double d outer in
+      let lo = number_under g Indirect node place in
+      let mid = number_under g Indirect node (pointers_of g) in
+      let from = number_under g Indirect (number_under g Double d (outer + 1)) 0 in
+      let high = number_under g Indirect (number_under g Double d (pointers_of g)) 0 in
       let middle = outside lo mid indices in
       let owned = both_owned g c v n indices shape entry outer place t.0 t.1 t.2 t.3 s.one s.top s.own_top s.one_view s.two s.node s.own_node s.two_view in
       let made = moved g c v n indices shape entry outer place t.0 t.1 t.2 t.3 s.one s.top s.own_top s.one_view s.two s.node s.own_node s.two_view in
@@ -71,7 +72,7 @@ module _ (g : Request) (c v : View) (n : ℕ) (indices : List ℕ) (shape : HasS
       let three = entries_trims g s.four w n end two.shape view (entry + 1) (s.rest (sound_inode g s.four n end two.shape (entry + 1))) in
       let most : place ≤ pointers_of g = t.2 in
       let up = places_up g positive d (outer + 1) (pointers_of g) (omega arith) in
-      let next : mid ≡ from = node_end g positive node ∙ ap (λ (m : ℕ). data_in g m 0) (let is : node + 1 ≡ indirect_in g d (outer + 1) = omega arith in is) in
+      let next : mid ≡ from = node_end g positive node ∙ ap (λ (m : ℕ). number_under g Indirect m 0) (let is : node + 1 ≡ number_under g Double d (outer + 1) = omega arith in is) in
       subst (Trims g s.two w n indices)
       (ap (λ (m : ℕ). before m end) (double_end g positive entry t.0) ∙ (λ i. before high (outside (sym next i) high middle)) ∙ three_ranges lo mid high indices (omega arith) (omega arith))
       (trims_twice g s.two s.three w n indices middle _ owned one (trims_twice g s.three s.four w n middle end _ one.shape two three))

@@ -12,14 +12,18 @@ use Rattle.edge_base.specs.tree.Positions.{Position, has, positions_of}
 use Rattle.edge_store.specs.View.{View, Block, IsView, is_used, is_whole, head_of_inode}
 use Rattle.edge_store.specs.Placed.{entry_at, double_block, indirect_block, data_block, block_at}
 use Rattle.edge_store.proofs.ViewLaws.{unused_zero}
-use Rattle.edge_shape.specs.Shape.{HasShape, at, entries_at, data_in, indirect_in, before, outside, HasBetween}
-use Rattle.edge_shape.specs.Trees.{in_tree, in_indirect, form_of_entry}
+use Rattle.edge_moves.specs.Relinks.{number_under}
+use Rattle.edge_moves.specs.Sound.{numbered}
+use Rattle.edge_store.specs.Damages.{form_of_entry}
+use Rattle.edge_shape.specs.Shape.{HasShape, entries_at, before, outside, HasBetween}
+use Rattle.edge_shape.specs.Trees.{in_tree, in_indirect}
 use Rattle.edge_shape.specs.Cutting.{CutPlaces, CutEntries}
 use Rattle.edge_shape.specs.Gone.{Pointers, gone, gone_data, gone_indirect, left, indirect_places, double_places, entry_places}
 use Rattle.edge_shape.specs.Trimmed.{Trims}
 use Rattle.edge_shape.specs.Where.{first_in_entry}
 use Rattle.edge_shape.proofs.ListLaws.{list_there, is_false, true_false}
-use Rattle.edge_shape.proofs.SpotLaws.{some_pointers, used_spot, pointer_there}
+use Rattle.edge_moves.proofs.SlotLaws.{some_pointers_fit}
+use Rattle.edge_shape.proofs.SpotLaws.{used_spot, pointer_there}
 use Rattle.edge_shape.proofs.ShapeLaws.{listed, indirect_down, spot_at, one_place, data_above, data_pointer, indirect_pointer, long_indirect, long_double, under_pointer}
 use Rattle.edge_shape.proofs.LeaveLaws.{position_of, position_there, index_listed, block_stays, kept_where, gone_where}
 use Rattle.edge_shape.proofs.EntryLaws.{entry_position}
@@ -43,11 +47,11 @@ trims_twice g v u w n indices middle rest shape one two = record {
       let here = position_of g w n rest two.shape Plain i i member (eq-eqb i i refl) in
       let is = one.stays Plain i (still Plain i here) in
       ap w.blocks (sym is) ∙ two.bytes i member ∙ ap u.blocks is ∙ one.bytes i (member_of i (still Plain i here));
-  dropped = λ form m h none. elim (cases_Bool (has (positions_of g n middle) (at n form m))) [
+  dropped = λ form m h none. elim (cases_Bool (has (positions_of g n middle) (numbered n form m))) [
     | inl kept ↦ ap w.blocks (sym (one.stays form m kept)) ∙ two.dropped form m kept none
     | inr lost ↦
         let unused = one.dropped form m h lost in
-        two.others (block_at g v (at n form m)) (λ other l there same. used_none (u.blocks (block_at g v (at n form m))) (ap (is_used u) (sym same) ∙ used_spot u other n (block_at g u (at n other l)) (spot_at g u n middle one.shape other l there)) unused) ∙ unused
+        two.others (block_at g v (numbered n form m)) (λ other l there same. used_none (u.blocks (block_at g v (numbered n form m))) (ap (is_used u) (sym same) ∙ used_spot u other n (block_at g u (numbered n other l)) (spot_at g u n middle one.shape other l there)) unused) ∙ unused
   ];
   others = λ b far. two.others b (λ form m there same.
       let is = one.stays form m (listed g u n middle one.shape form m there) in
@@ -55,10 +59,10 @@ trims_twice g v u w n indices middle rest shape one two = record {
 }
   where
     -- a position of what is left was there before
-    still : (form : Form) (m : ℕ) → has (positions_of g n rest) (at n form m) ≡ true → has (positions_of g n middle) (at n form m) ≡ true
+    still : (form : Form) (m : ℕ) → has (positions_of g n rest) (numbered n form m) ≡ true → has (positions_of g n middle) (numbered n form m) ≡ true
     still form m h = listed g u n middle one.shape form m (λ none. position_there g w n rest two.shape form m h (two.stays form m h ∙ none))
 
-    member_of : (i : ℕ) → has (positions_of g n middle) (at n Plain i) ≡ true → list_any (λ k. k == i) middle ≡ true
+    member_of : (i : ℕ) → has (positions_of g n middle) (numbered n Plain i) ≡ true → list_any (λ k. k == i) middle ≡ true
     member_of i h = index_listed g u n middle one.shape i (position_there g u n middle one.shape Plain i h)
 
     used_none : (o : Option Block) → is_some o ≡ true → o ≡ None → ⊥
@@ -75,25 +79,25 @@ module _ (g : Request) (v : View) (n : ℕ) (indices : List ℕ) (shape : HasSha
   tree_self Indirect b = or_left (b == b) (list_any (λ c. b == c) (entries_at v Indirect b)) (eq-eqb b b refl)
   tree_self Double b = or_left (b == b) (list_any (λ c. in_indirect v c b) (entries_at v Double b)) (eq-eqb b b refl)
 
-  tree_data : (j q : ℕ) → q < k → indirect_block g v n j ≢ 0 → in_indirect v (indirect_block g v n j) (data_block g v n (data_in g j q)) ≡ true
-  tree_data j q low there = or_right (data_block g v n (data_in g j q) == indirect_block g v n j) _
-      (list_there (λ c. data_block g v n (data_in g j q) == c) (entries_at v Indirect (indirect_block g v n j)) q (let all = long_indirect g v n indices shape j there in omega arith)
+  tree_data : (j q : ℕ) → q < k → indirect_block g v n j ≢ 0 → in_indirect v (indirect_block g v n j) (data_block g v n (number_under g Indirect j q)) ≡ true
+  tree_data j q low there = or_right (data_block g v n (number_under g Indirect j q) == indirect_block g v n j) _
+      (list_there (λ c. data_block g v n (number_under g Indirect j q) == c) (entries_at v Indirect (indirect_block g v n j)) q (let all = long_indirect g v n indices shape j there in omega arith)
       (eq-eqb _ _ (sym (data_pointer g v n indices shape j there q low))))
 
   -- what hangs under a place of a double-indirect node
-  tree_under : (d s x : ℕ) → s < k → double_block g v n d ≢ 0 → in_indirect v (indirect_block g v n (indirect_in g d s)) x ≡ true → in_tree v Double (double_block g v n d) x ≡ true
+  tree_under : (d s x : ℕ) → s < k → double_block g v n d ≢ 0 → in_indirect v (indirect_block g v n (number_under g Double d s)) x ≡ true → in_tree v Double (double_block g v n d) x ≡ true
   tree_under d s x low there under = or_right (x == double_block g v n d) _
       (list_there (λ c. in_indirect v c x) (entries_at v Double (double_block g v n d)) s (let all = long_double g v n indices shape d there in omega arith)
       (ap (λ (c : ℕ). in_indirect v c x) (indirect_pointer g v n indices shape d there s low) ∙ under))
 
-  double_above : (d s : ℕ) → s < k → indirect_block g v n (indirect_in g d s) ≢ 0 → double_block g v n d ≢ 0
+  double_above : (d s : ℕ) → s < k → indirect_block g v n (number_under g Double d s) ≢ 0 → double_block g v n d ≢ 0
   double_above d s low there = pointer_there v Double (double_block g v n d) s (λ none. there (indirect_down g v n indices shape d s low ∙ none))
 
   div_mod : (a r w : ℕ) → 0 < w → a ≤ r → a + ((r - a) / w * w + (r - a) % w) ≡ r
   div_mod a r w some past = omega arith
 
   positive : 0 < k
-  positive = some_pointers g shape.geometry
+  positive = some_pointers_fit g shape.geometry
 
   -- the entry above a position
   abbrev root : Form → ℕ → ℕ
@@ -122,12 +126,12 @@ module _ (g : Request) (v : View) (n : ℕ) (indices : List ℕ) (shape : HasSha
       let d : ℕ = (j - g.indirect) / k in
       let s : ℕ = (j - g.indirect) % k in
       let low = mod_below (j - g.indirect) k positive in
-      let is : indirect_in g d s ≡ j = div_mod g.indirect j k positive past in
-      let there_s : indirect_block g v n (indirect_in g d s) ≢ 0 = subst (λ (m : ℕ). indirect_block g v n m ≢ 0) (sym is) there in
+      let is : number_under g Double d s ≡ j = div_mod g.indirect j k positive past in
+      let there_s : indirect_block g v n (number_under g Double d s) ≢ 0 = subst (λ (m : ℕ). indirect_block g v n m ≢ 0) (sym is) there in
       let top = double_above d s low there_s in
       in_double_entry d x top (tree_under d s x low top (ap (λ (m : ℕ). in_indirect v (indirect_block g v n m) x) is ∙ under))
 
-  in_root : (form : Form) (m : ℕ) → block_at g v (at n form m) ≢ 0 → InRoot (root form m) (block_at g v (at n form m))
+  in_root : (form : Form) (m : ℕ) → block_at g v (numbered n form m) ≢ 0 → InRoot (root form m) (block_at g v (numbered n form m))
   unfolding data_block
   in_root Double c there = in_double_entry c (double_block g v n c) there (tree_self Double (double_block g v n c))
   in_root Indirect j there = elim (cases_lt j g.indirect) [
@@ -139,7 +143,7 @@ module _ (g : Request) (v : View) (n : ℕ) (indices : List ℕ) (shape : HasSha
     | inr past ↦
         let row : ℕ = (i - g.direct) / k in
         let node = data_above g v n indices shape i past there in
-        let is : data_in g row ((i - g.direct) % k) ≡ i = div_mod g.direct i k positive past in
+        let is : number_under g Indirect row ((i - g.direct) % k) ≡ i = div_mod g.direct i k positive past in
         let under : in_indirect v (indirect_block g v n row) (data_block g v n i) ≡ true =
         ap (λ (m : ℕ). in_indirect v (indirect_block g v n row) (data_block g v n m)) (sym is) ∙ tree_data row ((i - g.direct) % k) (mod_below (i - g.direct) k positive) node in
         subst (λ (e : ℕ). InRoot e (data_block g v n i)) (sym (cond-false (ltb i g.direct) _ _ (le-ltb i g.direct past))) (elim (cases_lt row g.indirect) [
@@ -181,11 +185,11 @@ module _ (g : Request) (v w : View) (n : ℕ) (indices : List ℕ) (shape : HasS
     abbrev rest : List ℕ
     rest = left g taken indices
 
-    entries_keep : (form : Form) (m : ℕ) → has (positions_of g n rest) (at n form m) ≡ true → gone g taken form m ≡ false
+    entries_keep : (form : Form) (m : ℕ) → has (positions_of g n rest) (numbered n form m) ≡ true → gone g taken form m ≡ false
     entries_keep form m h = kept_where g v w n indices shape taken (entries_unlink g v w n indices shape from cut view) (entries_leave g v w n indices shape from cut view) view cut.inode (entries_spots g v w n indices shape from cut view) form m h
 
     -- a block that is none of the node's hangs under no entry
-    no_tree : (b : ℕ) → b ≢ 0 → ((form : Form) (m : ℕ) → block_at g v (at n form m) ≢ 0 → block_at g v (at n form m) ≢ b) → (e : ℕ) → entry_at v n e ≢ 0 → in_tree v (form_of_entry g e) (entry_at v n e) b ≡ false
+    no_tree : (b : ℕ) → b ≢ 0 → ((form : Form) (m : ℕ) → block_at g v (numbered n form m) ≢ 0 → block_at g v (numbered n form m) ≢ b) → (e : ℕ) → entry_at v n e ≢ 0 → in_tree v (form_of_entry g e) (entry_at v n e) b ≡ false
     no_tree b some far e there = is_false _ (λ under.
         let p = entry_position g v n e in
         let r = under_is g v n indices shape p.form p.index b (λ none. there (p.block ∙ none)) some (subst (λ (x : ℕ). in_tree v p.form x b ≡ true) p.block (subst (λ (f : Form). in_tree v f (entry_at v n e) b ≡ true) p.is_form under)) in
@@ -202,7 +206,7 @@ module _ (g : Request) (v w : View) (n : ℕ) (indices : List ℕ) (shape : HasS
           let lost = gone_where g v w n indices shape taken (entries_unlink g v w n indices shape from cut view) (entries_leave g v w n indices shape from cut view) view cut.inode (entries_spots g v w n indices shape from cut view) form m h none in
           let within = and_parts (leb from (root g v n indices shape form m)) (ltb (root g v n indices shape form m) (entries_of g)) (sym (gone_root g v n indices shape from (entries_of g) form m) ∙ lost) in
           let r = in_root g v n indices shape form m (position_there g v n indices shape form m h) in
-          cut.dropped (root g v n indices shape form m) (block_at g v (at n form m)) (leb-true from _ within.0) (ltb-true _ (entries_of g) within.1) r.0 r.1;
+          cut.dropped (root g v n indices shape form m) (block_at g v (numbered n form m)) (leb-true from _ within.0) (ltb-true _ (entries_of g) within.1) r.0 r.1;
       others = λ b far. elim (cases_eq b 0) [
         | inl none ↦ ap w.blocks none ∙ unused_zero g w view ∙ sym (ap v.blocks none ∙ unused_zero g v shape.view)
         | inr some ↦ cut.kept b (λ e low high there. no_tree b some far e there)
@@ -218,7 +222,7 @@ module _ (g : Request) (v w : View) (n : ℕ) (indices : List ℕ) (shape : HasS
 
   -- ---- an indirect node
 
-  module _ (j from : ℕ) (most : from ≤ pointers_of g) (stay : HasBetween indices (data_in g j 0) (data_in g j from)) (cut : CutPlaces v w Indirect n (indirect_block g v n j) from (pointers_of g)) where
+  module _ (j from : ℕ) (most : from ≤ pointers_of g) (stay : HasBetween indices (number_under g Indirect j 0) (number_under g Indirect j from)) (cut : CutPlaces v w Indirect n (indirect_block g v n j) from (pointers_of g)) where
     abbrev node_taken : Pointers
     node_taken = indirect_places j from (pointers_of g)
 
@@ -226,7 +230,7 @@ module _ (g : Request) (v w : View) (n : ℕ) (indices : List ℕ) (shape : HasS
     node_rest = left g node_taken indices
 
     some_k : 0 < pointers_of g
-    some_k = some_pointers g shape.geometry
+    some_k = some_pointers_fit g shape.geometry
 
     node : indirect_block g v n j ≢ 0
     node = (in_node g v n indices shape j 0 from most stay).3
@@ -243,19 +247,19 @@ module _ (g : Request) (v w : View) (n : ℕ) (indices : List ℕ) (shape : HasS
     node_shape : HasShape g w n node_rest
     node_shape = indirect_cut g v w n indices shape j from node cut stays_there view whole
 
-    node_stays : (form : Form) (m : ℕ) → has (positions_of g n node_rest) (at n form m) ≡ true → block_at g w (at n form m) ≡ block_at g v (at n form m)
+    node_stays : (form : Form) (m : ℕ) → has (positions_of g n node_rest) (numbered n form m) ≡ true → block_at g w (numbered n form m) ≡ block_at g v (numbered n form m)
     node_stays form m h = block_stays g v w n indices shape node_taken (indirect_unlinks g v w n indices shape j from node cut stays_there view) (indirect_leaves g v w n indices shape j from node cut stays_there view) view whole (indirect_spots g v w n indices shape j from node cut stays_there view) form m h
 
-    node_kept : (form : Form) (m : ℕ) → has (positions_of g n node_rest) (at n form m) ≡ true → gone g node_taken form m ≡ false
+    node_kept : (form : Form) (m : ℕ) → has (positions_of g n node_rest) (numbered n form m) ≡ true → gone g node_taken form m ≡ false
     node_kept form m h = kept_where g v w n indices shape node_taken (indirect_unlinks g v w n indices shape j from node cut stays_there view) (indirect_leaves g v w n indices shape j from node cut stays_there view) view whole (indirect_spots g v w n indices shape j from node cut stays_there view) form m h
 
-    node_gone : (form : Form) (m : ℕ) → has (positions_of g n indices) (at n form m) ≡ true → has (positions_of g n node_rest) (at n form m) ≡ false → gone g node_taken form m ≡ true
+    node_gone : (form : Form) (m : ℕ) → has (positions_of g n indices) (numbered n form m) ≡ true → has (positions_of g n node_rest) (numbered n form m) ≡ false → gone g node_taken form m ≡ true
     node_gone form m h none = gone_where g v w n indices shape node_taken (indirect_unlinks g v w n indices shape j from node cut stays_there view) (indirect_leaves g v w n indices shape j from node cut stays_there view) view whole (indirect_spots g v w n indices shape j from node cut stays_there view) form m h none
 
-    at_place : (q : ℕ) → q < pointers_of g → slice_index (entries_at v Indirect (indirect_block g v n j)) q ≡ data_block g v n (data_in g j q)
+    at_place : (q : ℕ) → q < pointers_of g → slice_index (entries_at v Indirect (indirect_block g v n j)) q ≡ data_block g v n (number_under g Indirect j q)
     at_place q low = data_pointer g v n indices shape j node q low
 
-    node_dropped : (form : Form) (m : ℕ) → block_at g v (at n form m) ≢ 0 → gone g node_taken form m ≡ true → w.blocks (block_at g v (at n form m)) ≡ None
+    node_dropped : (form : Form) (m : ℕ) → block_at g v (numbered n form m) ≢ 0 → gone g node_taken form m ≡ true → w.blocks (block_at g v (numbered n form m)) ≡ None
     node_dropped Double m there lost = absurd (let e : false ≡ true = lost in cc)
     node_dropped Indirect m there lost = absurd (true_false (sym lost ∙ by (ltb m g.indirect)))
       where
@@ -263,11 +267,11 @@ module _ (g : Request) (v w : View) (n : ℕ) (indices : List ℕ) (shape : HasS
         by true = refl
         by false = refl
     node_dropped Plain x there lost =
-        let within = and_parts (leb (data_in g j from) x) (ltb x (data_in g j (pointers_of g))) (sym (gone-indirect_places g some_k j from (pointers_of g) x (omega arith)) ∙ lost) in
-        let low : data_in g j from ≤ x = leb-true (data_in g j from) x within.0 in
-        let high : x < data_in g j (pointers_of g) = ltb-true x (data_in g j (pointers_of g)) within.1 in
-        let q : ℕ = x - data_in g j 0 in
-        let is : data_in g j q ≡ x = omega arith in
+        let within = and_parts (leb (number_under g Indirect j from) x) (ltb x (number_under g Indirect j (pointers_of g))) (sym (gone-indirect_places g some_k j from (pointers_of g) x (omega arith)) ∙ lost) in
+        let low : number_under g Indirect j from ≤ x = leb-true (number_under g Indirect j from) x within.0 in
+        let high : x < number_under g Indirect j (pointers_of g) = ltb-true x (number_under g Indirect j (pointers_of g)) within.1 in
+        let q : ℕ = x - number_under g Indirect j 0 in
+        let is : number_under g Indirect j q ≡ x = omega arith in
         let q_low : q < pointers_of g = omega arith in
         let pointer : slice_index (entries_at v Indirect (indirect_block g v n j)) q ≡ data_block g v n x = at_place q q_low ∙ ap (data_block g v n) is in
         cut.dropped q (data_block g v n x) (omega arith) q_low (λ none. there (sym pointer ∙ none)) (eq-eqb _ _ (sym pointer))
@@ -283,24 +287,24 @@ module _ (g : Request) (v w : View) (n : ℕ) (indices : List ℕ) (shape : HasS
           let there : data_block g v n i ≢ 0 = λ none. position_there g w n node_rest node_shape Plain i h (node_stays Plain i h ∙ none) in
           cut.kept (data_block g v n i) (λ same. apart_forms Plain Indirect i j (λ (e : Plain ≡ Indirect). cc) there same)
           (λ p low high there_p. is_false (data_block g v n i == slice_index (entries_at v Indirect (indirect_block g v n j)) p) (λ is.
-          let index : i ≡ data_in g j p = ap (λ (r : Position). r.index) (one_place g v n indices shape Plain Plain i (data_in g j p) there (eqb-true _ _ is ∙ at_place p high)) in
+          let index : i ≡ number_under g Indirect j p = ap (λ (r : Position). r.index) (one_place g v n indices shape Plain Plain i (number_under g Indirect j p) there (eqb-true _ _ is ∙ at_place p high)) in
           true_false (sym (goes p low high) ∙ ap (gone_data g node_taken) (sym index) ∙ node_kept Plain i h)));
       dropped = λ form m h none. node_dropped form m (position_there g v n indices shape form m h) (node_gone form m h none);
       others = λ b far. cut.kept b (λ same. far Indirect j node (sym same))
           (λ p low high there_p. is_false (b == slice_index (entries_at v Indirect (indirect_block g v n j)) p) (λ is.
-          let same : data_block g v n (data_in g j p) ≡ b = sym (eqb-true _ _ is ∙ at_place p high) in
-          far Plain (data_in g j p) (λ none. there_p (at_place p high ∙ none)) same));
+          let same : data_block g v n (number_under g Indirect j p) ≡ b = sym (eqb-true _ _ is ∙ at_place p high) in
+          far Plain (number_under g Indirect j p) (λ none. there_p (at_place p high ∙ none)) same));
     }
       where
-        apart_forms : (form other : Form) (m l : ℕ) → form ≢ other → block_at g v (at n form m) ≢ 0 → block_at g v (at n form m) ≡ block_at g v (at n other l) → ⊥
+        apart_forms : (form other : Form) (m l : ℕ) → form ≢ other → block_at g v (numbered n form m) ≢ 0 → block_at g v (numbered n form m) ≡ block_at g v (numbered n other l) → ⊥
         apart_forms form other m l far there same = far (ap (λ (r : Position). r.form) (one_place g v n indices shape form other m l there same))
 
-        goes : (p : ℕ) → from ≤ p → p < pointers_of g → gone_data g node_taken (data_in g j p) ≡ true
-        goes p low high = gone-indirect_places g some_k j from (pointers_of g) (data_in g j p) (omega arith) ∙ and_from _ _ (le-leb (data_in g j from) (data_in g j p) (omega arith)) (lt-ltb (data_in g j p) (data_in g j (pointers_of g)) (omega arith))
+        goes : (p : ℕ) → from ≤ p → p < pointers_of g → gone_data g node_taken (number_under g Indirect j p) ≡ true
+        goes p low high = gone-indirect_places g some_k j from (pointers_of g) (number_under g Indirect j p) (omega arith) ∙ and_from _ _ (le-leb (number_under g Indirect j from) (number_under g Indirect j p) (omega arith)) (lt-ltb (number_under g Indirect j p) (number_under g Indirect j (pointers_of g)) (omega arith))
 
   -- ---- a double-indirect node
 
-  module _ (d from : ℕ) (most : from ≤ pointers_of g) (stay : HasBetween indices (data_in g (indirect_in g d 0) 0) (data_in g (indirect_in g d from) 0)) (cut : CutPlaces v w Double n (double_block g v n d) from (pointers_of g)) where
+  module _ (d from : ℕ) (most : from ≤ pointers_of g) (stay : HasBetween indices (number_under g Indirect (number_under g Double d 0) 0) (number_under g Indirect (number_under g Double d from) 0)) (cut : CutPlaces v w Double n (double_block g v n d) from (pointers_of g)) where
     abbrev top_taken : Pointers
     top_taken = double_places d from (pointers_of g)
 
@@ -308,7 +312,7 @@ module _ (g : Request) (v w : View) (n : ℕ) (indices : List ℕ) (shape : HasS
     top_rest = left g top_taken indices
 
     positive_k : 0 < pointers_of g
-    positive_k = some_pointers g shape.geometry
+    positive_k = some_pointers_fit g shape.geometry
 
     top : double_block g v n d ≢ 0
     top = (in_double g v n indices shape d 0 from most stay).3
@@ -325,31 +329,31 @@ module _ (g : Request) (v w : View) (n : ℕ) (indices : List ℕ) (shape : HasS
     top_shape : HasShape g w n top_rest
     top_shape = double_cut g v w n indices shape d from top cut top_stays_there view top_whole
 
-    top_stays : (form : Form) (m : ℕ) → has (positions_of g n top_rest) (at n form m) ≡ true → block_at g w (at n form m) ≡ block_at g v (at n form m)
+    top_stays : (form : Form) (m : ℕ) → has (positions_of g n top_rest) (numbered n form m) ≡ true → block_at g w (numbered n form m) ≡ block_at g v (numbered n form m)
     top_stays form m h = block_stays g v w n indices shape top_taken (double_unlinks g v w n indices shape d from top cut top_stays_there view) (double_leaves g v w n indices shape d from top cut top_stays_there view) view top_whole (double_spots g v w n indices shape d from top cut top_stays_there view) form m h
 
-    top_kept : (form : Form) (m : ℕ) → has (positions_of g n top_rest) (at n form m) ≡ true → gone g top_taken form m ≡ false
+    top_kept : (form : Form) (m : ℕ) → has (positions_of g n top_rest) (numbered n form m) ≡ true → gone g top_taken form m ≡ false
     top_kept form m h = kept_where g v w n indices shape top_taken (double_unlinks g v w n indices shape d from top cut top_stays_there view) (double_leaves g v w n indices shape d from top cut top_stays_there view) view top_whole (double_spots g v w n indices shape d from top cut top_stays_there view) form m h
 
-    top_gone : (form : Form) (m : ℕ) → has (positions_of g n indices) (at n form m) ≡ true → has (positions_of g n top_rest) (at n form m) ≡ false → gone g top_taken form m ≡ true
+    top_gone : (form : Form) (m : ℕ) → has (positions_of g n indices) (numbered n form m) ≡ true → has (positions_of g n top_rest) (numbered n form m) ≡ false → gone g top_taken form m ≡ true
     top_gone form m h none = gone_where g v w n indices shape top_taken (double_unlinks g v w n indices shape d from top cut top_stays_there view) (double_leaves g v w n indices shape d from top cut top_stays_there view) view top_whole (double_spots g v w n indices shape d from top cut top_stays_there view) form m h none
 
-    at_top : (s : ℕ) → s < pointers_of g → slice_index (entries_at v Double (double_block g v n d)) s ≡ indirect_block g v n (indirect_in g d s)
+    at_top : (s : ℕ) → s < pointers_of g → slice_index (entries_at v Double (double_block g v n d)) s ≡ indirect_block g v n (number_under g Double d s)
     at_top s low = indirect_pointer g v n indices shape d top s low
 
     -- an indirect node that is gone, with what hangs under it
     inner_dropped : (l x : ℕ) → gone_indirect g top_taken l ≡ true → indirect_block g v n l ≢ 0 → in_indirect v (indirect_block g v n l) x ≡ true → w.blocks x ≡ None
     inner_dropped l x lost there under =
-        let within = and_parts (leb (indirect_in g d from) l) (ltb l (indirect_in g d (pointers_of g))) (sym (gone_indirect-double_places g positive_k d from (pointers_of g) l (omega arith)) ∙ lost) in
-        let low : indirect_in g d from ≤ l = leb-true (indirect_in g d from) l within.0 in
-        let high : l < indirect_in g d (pointers_of g) = ltb-true l (indirect_in g d (pointers_of g)) within.1 in
-        let s : ℕ = l - indirect_in g d 0 in
-        let is : indirect_in g d s ≡ l = omega arith in
+        let within = and_parts (leb (number_under g Double d from) l) (ltb l (number_under g Double d (pointers_of g))) (sym (gone_indirect-double_places g positive_k d from (pointers_of g) l (omega arith)) ∙ lost) in
+        let low : number_under g Double d from ≤ l = leb-true (number_under g Double d from) l within.0 in
+        let high : l < number_under g Double d (pointers_of g) = ltb-true l (number_under g Double d (pointers_of g)) within.1 in
+        let s : ℕ = l - number_under g Double d 0 in
+        let is : number_under g Double d s ≡ l = omega arith in
         let s_low : s < pointers_of g = omega arith in
         let pointer : slice_index (entries_at v Double (double_block g v n d)) s ≡ indirect_block g v n l = at_top s s_low ∙ ap (indirect_block g v n) is in
         cut.dropped s x (omega arith) s_low (λ none. there (sym pointer ∙ none)) (ap (λ (c : ℕ). in_indirect v c x) pointer ∙ under)
 
-    top_dropped : (form : Form) (m : ℕ) → block_at g v (at n form m) ≢ 0 → gone g top_taken form m ≡ true → w.blocks (block_at g v (at n form m)) ≡ None
+    top_dropped : (form : Form) (m : ℕ) → block_at g v (numbered n form m) ≢ 0 → gone g top_taken form m ≡ true → w.blocks (block_at g v (numbered n form m)) ≡ None
     top_dropped Double m there lost = absurd (let e : false ≡ true = lost in cc)
     top_dropped Indirect l there lost = inner_dropped l (indirect_block g v n l) lost there (tree_self g v n indices shape Indirect (indirect_block g v n l))
     top_dropped Plain x there lost = by (ltb x g.direct) refl lost
@@ -365,7 +369,7 @@ module _ (g : Request) (v w : View) (n : ℕ) (indices : List ℕ) (shape : HasS
             let row : ℕ = (x - g.direct) / pointers_of g in
             let place : ℕ = (x - g.direct) % pointers_of g in
             let above = data_above g v n indices shape x past there in
-            let is : data_in g row place ≡ x = div_mod g v n indices shape g.direct x (pointers_of g) positive_k past in
+            let is : number_under g Indirect row place ≡ x = div_mod g v n indices shape g.direct x (pointers_of g) positive_k past in
             inner_dropped row (data_block g v n x) (or_false _ h) above
             (ap (λ (m : ℕ). in_indirect v (indirect_block g v n row) (data_block g v n m)) (sym is) ∙ tree_data g v n indices shape row place (mod_below (x - g.direct) (pointers_of g) positive_k) above)
 
@@ -385,8 +389,8 @@ module _ (g : Request) (v w : View) (n : ℕ) (indices : List ℕ) (shape : HasS
         | inl none ↦ ap w.blocks none ∙ unused_zero g w view ∙ sym (ap v.blocks none ∙ unused_zero g v shape.view)
         | inr some_b ↦ cut.kept b (λ same. far Double d top (sym same)) (λ s low high there_s. is_false (in_indirect v (slice_index (entries_at v Double (double_block g v n d)) s) b) (λ under.
             elim (under_pointer g v n indices shape d top s b high there_s under) [
-              | inl is ↦ far Indirect (indirect_in g d s) (λ none. some_b (is ∙ none)) (sym is)
-              | inr r ↦ far Plain (data_in g (indirect_in g d s) r.0) (λ none. some_b (sym r.2 ∙ none)) r.2
+              | inl is ↦ far Indirect (number_under g Double d s) (λ none. some_b (is ∙ none)) (sym is)
+              | inr r ↦ far Plain (number_under g Indirect (number_under g Double d s) r.0) (λ none. some_b (sym r.2 ∙ none)) r.2
             ]))
       ];
     }
@@ -399,12 +403,12 @@ module _ (g : Request) (v w : View) (n : ℕ) (indices : List ℕ) (shape : HasS
   pub entries_trims : (from : ℕ) → CutEntries g v w n from (entries_of g) → Trims g v w n indices (before (first_in_entry g from) indices)
   entries_trims from cut = subst (Trims g v w n indices) (left-entry_places g v n indices shape from) (entries_trim from cut)
 
-  pub node_trims : (j from : ℕ) → from ≤ pointers_of g → HasBetween indices (data_in g j 0) (data_in g j from) → CutPlaces v w Indirect n (indirect_block g v n j) from (pointers_of g)
-      → Trims g v w n indices (outside (data_in g j from) (data_in g j (pointers_of g)) indices)
+  pub node_trims : (j from : ℕ) → from ≤ pointers_of g → HasBetween indices (number_under g Indirect j 0) (number_under g Indirect j from) → CutPlaces v w Indirect n (indirect_block g v n j) from (pointers_of g)
+      → Trims g v w n indices (outside (number_under g Indirect j from) (number_under g Indirect j (pointers_of g)) indices)
   node_trims j from most stay cut = subst (Trims g v w n indices)
-      (λ i. filter (λ x. not (gone-indirect_places g (some_pointers g shape.geometry) j from (pointers_of g) x (omega arith) i)) indices) (node_trim j from most stay cut)
+      (λ i. filter (λ x. not (gone-indirect_places g (some_pointers_fit g shape.geometry) j from (pointers_of g) x (omega arith) i)) indices) (node_trim j from most stay cut)
 
-  pub top_trims : (d from : ℕ) → from ≤ pointers_of g → HasBetween indices (data_in g (indirect_in g d 0) 0) (data_in g (indirect_in g d from) 0) → CutPlaces v w Double n (double_block g v n d) from (pointers_of g)
-      → Trims g v w n indices (outside (data_in g (indirect_in g d from) 0) (data_in g (indirect_in g d (pointers_of g)) 0) indices)
+  pub top_trims : (d from : ℕ) → from ≤ pointers_of g → HasBetween indices (number_under g Indirect (number_under g Double d 0) 0) (number_under g Indirect (number_under g Double d from) 0) → CutPlaces v w Double n (double_block g v n d) from (pointers_of g)
+      → Trims g v w n indices (outside (number_under g Indirect (number_under g Double d from) 0) (number_under g Indirect (number_under g Double d (pointers_of g)) 0) indices)
   top_trims d from most stay cut = subst (Trims g v w n indices)
-      (λ i. filter (λ x. not (gone-double_places g (some_pointers g shape.geometry) d from (pointers_of g) x (omega arith) i)) indices) (top_trim d from most stay cut)
+      (λ i. filter (λ x. not (gone-double_places g (some_pointers_fit g shape.geometry) d from (pointers_of g) x (omega arith) i)) indices) (top_trim d from most stay cut)

@@ -12,12 +12,13 @@ use Rattle.edge_base.specs.layout.Places.{entries_of, pointers_of, max_blocks_of
 use Rattle.edge_store.specs.View.{View}
 use Rattle.edge_store.specs.Placed.{entry_at, double_block, indirect_block}
 use Rattle.edge_store.proofs.DigitLaws.{behind, indirect_below, table_below}
+use Rattle.edge_moves.specs.Relinks.{number_under}
 use Rattle.edge_shape.specs.declared.cut.Cut.{Cut}
 use Rattle.edge_shape.specs.declared.cut.Cut.TheVariants.{Whole, Node, Top, Both}
-use Rattle.edge_shape.specs.Shape.{HasShape, entries_at, data_in, indirect_in, HasBetween, SameBefore}
+use Rattle.edge_shape.specs.Shape.{HasShape, entries_at, HasBetween, SameBefore}
 use Rattle.edge_shape.specs.Where.{some_in, through, cut_single, inner_kept, inner_cut, between_double, cut_double, cut_of_way, cut_at, first_in_entry, first_gone, GoesThrough, TakesFrom}
 use Rattle.edge_shape.proofs.ListLaws.{some_in-some, some_in-found, true_false}
-use Rattle.edge_shape.proofs.SpotLaws.{room}
+use Rattle.edge_moves.proofs.SlotLaws.{entries_fit}
 use Rattle.edge_shape.proofs.ShapeLaws.{data_there, indirect_pointer, some_below}
 use Rattle.edge_shape.proofs.LeaveLaws.{index_there, index_listed}
 use Rattle.edge_shape.proofs.RangeLaws.{first-direct, first-single, first-double}
@@ -76,7 +77,7 @@ module _ (g : Request) (v : View) (n : ℕ) (indices : List ℕ) (shape : HasSha
     j = entry - g.direct
 
     abbrev i : ℕ
-    i = data_in g j place
+    i = number_under g Indirect j place
 
     abbrev es : List ℕ
     es = entries_at v Indirect (entry_at v n entry)
@@ -84,36 +85,36 @@ module _ (g : Request) (v : View) (n : ℕ) (indices : List ℕ) (shape : HasSha
     is_node : indirect_block g v n j ≡ entry_at v n entry
     is_node = (single_entry g v n entry past low).1
 
-    start : first_in_entry g entry ≡ data_in g j 0
+    start : first_in_entry g entry ≡ number_under g Indirect j 0
     start = first-single g positive entry past low
 
-    end : first_in_entry g (entry + 1) ≡ data_in g j k
+    end : first_in_entry g (entry + 1) ≡ number_under g Indirect j k
     end = single_end g positive entry past low
 
     within : entry + 1 ≤ entries_of g
-    within = let all = room g shape.geometry in omega arith
+    within = let all = entries_fit g shape.geometry in omega arith
 
     -- an index in a range of places has a pointer there
-    pointer_in : (from upto : ℕ) → upto ≤ k → HasBetween indices (data_in g j from) (data_in g j upto) → (entry_at v n entry ≢ 0) × ((q : ℕ) × (from ≤ q) × (q < upto) × (slice_index es q ≢ 0))
+    pointer_in : (from upto : ℕ) → upto ≤ k → HasBetween indices (number_under g Indirect j from) (number_under g Indirect j upto) → (entry_at v n entry ≢ 0) × ((q : ℕ) × (from ≤ q) × (q < upto) × (slice_index es q ≢ 0))
     pointer_in from upto high between =
         let r = in_node g v n indices shape j from upto high between in
         ((λ none. r.3 (is_node ∙ none)), (r.0, r.1, r.2, λ none. r.4 (ap (λ (b : ℕ). slice_index (entries_at v Indirect b) r.0) is_node ∙ none)))
 
-    clear_where : (from upto : ℕ) → upto ≤ k → some_in es from upto ≡ false → IsClear indices (data_in g j from) (data_in g j upto)
+    clear_where : (from upto : ℕ) → upto ≤ k → some_in es from upto ≡ false → IsClear indices (number_under g Indirect j from) (number_under g Indirect j upto)
     clear_where from upto high none between = let r = (pointer_in from upto high between).1 in none_of es from upto r.0 none r.1 r.2 r.3
 
-    goes_on : IsClear indices i (data_in g j k) → Finds g indices i (Whole (entry + 1))
+    goes_on : IsClear indices i (number_under g Indirect j k) → Finds g indices i (Whole (entry + 1))
     goes_on clear = record {
       goes_through = within;
       takes = tt;
-      same = subst (SameBefore indices i) (sym end) (clear_up indices i (data_in g j k) (omega arith) clear);
+      same = subst (SameBefore indices i) (sym end) (clear_up indices i (number_under g Indirect j k) (omega arith) clear);
     }
 
-    goes_back : IsClear indices (data_in g j 0) i → Finds g indices i (Whole entry)
+    goes_back : IsClear indices (number_under g Indirect j 0) i → Finds g indices i (Whole entry)
     goes_back clear = record {
       goes_through = (let all = within in omega arith);
       takes = tt;
-      same = subst (SameBefore indices i) (sym start) (clear_down indices i (data_in g j 0) (omega arith) clear);
+      same = subst (SameBefore indices i) (sym start) (clear_down indices i (number_under g Indirect j 0) (omega arith) clear);
     }
 
     pub finds_single : Finds g indices i (cut_single g v n entry place)
@@ -121,7 +122,7 @@ module _ (g : Request) (v : View) (n : ℕ) (indices : List ℕ) (shape : HasSha
       where
         by : (first none kept cut : Bool) → (place == 0) ≡ first → (entry_at v n entry == 0) ≡ none → some_in es 0 place ≡ kept → some_in es place k ≡ cut
             → Finds g indices i (cond first (Whole entry) (cond none (Whole (entry + 1)) (through kept cut entry (Node entry place))))
-        by true none kept cut f e s t = goes_back (λ between. let zero_place : place ≡ 0 = eqb-true place 0 f in let low_x : data_in g j 0 ≤ between.0 = between.2 in let high_x : between.0 < data_in g j place = between.3 in absurd (omega arith))
+        by true none kept cut f e s t = goes_back (λ between. let zero_place : place ≡ 0 = eqb-true place 0 f in let low_x : number_under g Indirect j 0 ≤ between.0 = between.2 in let high_x : between.0 < number_under g Indirect j place = between.3 in absurd (omega arith))
         by false true kept cut f e s t = goes_on (λ between. (pointer_in place k (omega arith) between).0 (eqb-true (entry_at v n entry) 0 e))
         by false false kept false f e s t = goes_on (clear_where place k (omega arith) t)
         by false false false true f e s t = goes_back (clear_where 0 place (omega arith) s)
@@ -143,10 +144,10 @@ module _ (g : Request) (v : View) (n : ℕ) (indices : List ℕ) (shape : HasSha
     d = entry - g.direct - g.indirect
 
     abbrev jj : ℕ
-    jj = indirect_in g d outer
+    jj = number_under g Double d outer
 
     abbrev ii : ℕ
-    ii = data_in g jj place
+    ii = number_under g Indirect jj place
 
     abbrev ts : List ℕ
     ts = entries_at v Double (entry_at v n entry)
@@ -157,33 +158,33 @@ module _ (g : Request) (v : View) (n : ℕ) (indices : List ℕ) (shape : HasSha
     is_top : double_block g v n d ≡ entry_at v n entry
     is_top = (double_entry g v n entry past).1
 
-    top_start : first_in_entry g entry ≡ data_in g (indirect_in g d 0) 0
+    top_start : first_in_entry g entry ≡ number_under g Indirect (number_under g Double d 0) 0
     top_start = first-double g positive entry past
 
-    top_stop : first_in_entry g (entry + 1) ≡ data_in g (indirect_in g d k) 0
+    top_stop : first_in_entry g (entry + 1) ≡ number_under g Indirect (number_under g Double d k) 0
     top_stop = double_end g positive entry past
 
     -- the first index behind the indirect node that the cut goes through
-    behind_inner : data_in g jj k ≡ data_in g (indirect_in g d (outer + 1)) 0
-    behind_inner = node_end g positive jj ∙ ap (λ (m : ℕ). data_in g m 0) (let is : jj + 1 ≡ indirect_in g d (outer + 1) = omega arith in is)
+    behind_inner : number_under g Indirect jj k ≡ number_under g Indirect (number_under g Double d (outer + 1)) 0
+    behind_inner = node_end g positive jj ∙ ap (λ (m : ℕ). number_under g Indirect m 0) (let is : jj + 1 ≡ number_under g Double d (outer + 1) = omega arith in is)
 
-    from_start : data_in g (indirect_in g d 0) 0 ≤ data_in g jj 0
+    from_start : number_under g Indirect (number_under g Double d 0) 0 ≤ number_under g Indirect jj 0
     from_start = places_up g positive d 0 outer (omega arith)
 
-    upto_stop : data_in g (indirect_in g d (outer + 1)) 0 ≤ data_in g (indirect_in g d k) 0
+    upto_stop : number_under g Indirect (number_under g Double d (outer + 1)) 0 ≤ number_under g Indirect (number_under g Double d k) 0
     upto_stop = places_up g positive d (outer + 1) k (omega arith)
 
     -- an index in a range of places has a pointer there
-    top_pointer_in : (from upto : ℕ) → upto ≤ k → HasBetween indices (data_in g (indirect_in g d from) 0) (data_in g (indirect_in g d upto) 0)
+    top_pointer_in : (from upto : ℕ) → upto ≤ k → HasBetween indices (number_under g Indirect (number_under g Double d from) 0) (number_under g Indirect (number_under g Double d upto) 0)
         → (entry_at v n entry ≢ 0) × ((s : ℕ) × (from ≤ s) × (s < upto) × (slice_index ts s ≢ 0))
     top_pointer_in from upto high between =
         let r = in_double g v n indices shape d from upto high between in
         ((λ none. r.3 (is_top ∙ none)), (r.0, r.1, r.2, λ none. r.4 (ap (λ (b : ℕ). slice_index (entries_at v Double b) r.0) is_top ∙ none)))
 
-    clear_beside : (from upto : ℕ) → upto ≤ k → some_in ts from upto ≡ false → IsClear indices (data_in g (indirect_in g d from) 0) (data_in g (indirect_in g d upto) 0)
+    clear_beside : (from upto : ℕ) → upto ≤ k → some_in ts from upto ≡ false → IsClear indices (number_under g Indirect (number_under g Double d from) 0) (number_under g Indirect (number_under g Double d upto) 0)
     clear_beside from upto high none between = let r = (top_pointer_in from upto high between).1 in none_of ts from upto r.0 none r.1 r.2 r.3
 
-    stays_beside : (from upto : ℕ) → upto ≤ k → entry_at v n entry ≢ 0 → some_in ts from upto ≡ true → HasBetween indices (data_in g (indirect_in g d from) 0) (data_in g (indirect_in g d upto) 0)
+    stays_beside : (from upto : ℕ) → upto ≤ k → entry_at v n entry ≢ 0 → some_in ts from upto ≡ true → HasBetween indices (number_under g Indirect (number_under g Double d from) 0) (number_under g Indirect (number_under g Double d upto) 0)
     stays_beside from upto high there some_there =
         let r = some_in-found ts from upto some_there in
         from_double g v n indices shape d from upto r.0 high r.1 r.2 (λ none. there (sym is_top ∙ none)) (λ none. r.3 (ap (λ (b : ℕ). slice_index (entries_at v Double b) r.0) (sym is_top) ∙ none))
@@ -192,12 +193,12 @@ module _ (g : Request) (v : View) (n : ℕ) (indices : List ℕ) (shape : HasSha
       is_inner : indirect_block g v n jj ≡ inner
       is_inner = sym (indirect_pointer g v n indices shape d (λ none. there (sym is_top ∙ none)) outer outer_low) ∙ ap (λ (b : ℕ). slice_index (entries_at v Double b) outer) is_top
 
-      inner_pointer_in : (from upto : ℕ) → upto ≤ k → HasBetween indices (data_in g jj from) (data_in g jj upto) → (inner ≢ 0) × ((q : ℕ) × (from ≤ q) × (q < upto) × (slice_index (entries_at v Indirect inner) q ≢ 0))
+      inner_pointer_in : (from upto : ℕ) → upto ≤ k → HasBetween indices (number_under g Indirect jj from) (number_under g Indirect jj upto) → (inner ≢ 0) × ((q : ℕ) × (from ≤ q) × (q < upto) × (slice_index (entries_at v Indirect inner) q ≢ 0))
       inner_pointer_in from upto high between =
           let r = in_node g v n indices shape jj from upto high between in
           ((λ none. r.3 (is_inner ∙ none)), (r.0, r.1, r.2, λ none. r.4 (ap (λ (b : ℕ). slice_index (entries_at v Indirect b) r.0) is_inner ∙ none)))
 
-      clear_kept : inner_kept g v inner place ≡ false → IsClear indices (data_in g jj 0) ii
+      clear_kept : inner_kept g v inner place ≡ false → IsClear indices (number_under g Indirect jj 0) ii
       clear_kept none between =
           let r = inner_pointer_in 0 place (omega arith) between in
           let q : r.1.0 < place = r.1.2 in
@@ -209,7 +210,7 @@ module _ (g : Request) (v : View) (n : ℕ) (indices : List ℕ) (shape : HasSha
           all : (s t u : Bool) → s ≡ false → t ≡ false → u ≡ true → (not s && not t && u) ≡ true
           all s t u a b h = λ i. not (a i) && not (b i) && h i
 
-      clear_cut : inner_cut g v inner place ≡ false → IsClear indices ii (data_in g jj k)
+      clear_cut : inner_cut g v inner place ≡ false → IsClear indices ii (number_under g Indirect jj k)
       clear_cut none between =
           let r = inner_pointer_in place k (omega arith) between in
           true_false (sym (all (inner == 0) (place == 0) (some_in (entries_at v Indirect inner) place k) (apart inner r.0) (some_in-some (entries_at v Indirect inner) place k r.1.0 r.1.1 r.1.2 r.1.3)) ∙ none)
@@ -220,10 +221,10 @@ module _ (g : Request) (v : View) (n : ℕ) (indices : List ℕ) (shape : HasSha
           all : (s t u : Bool) → s ≡ false → u ≡ true → (not s && (t || u)) ≡ true
           all s t u a h = (λ i. not (a i) && (t || h i)) ∙ or_right t true refl
 
-      goes_inner : inner_cut g v inner place ≡ true → HasBetween indices ii (data_in g jj k)
+      goes_inner : inner_cut g v inner place ≡ true → HasBetween indices ii (number_under g Indirect jj k)
       goes_inner cut = by (inner == 0) (place == 0) (some_in (entries_at v Indirect inner) place k) refl refl refl cut
         where
-          by : (s t u : Bool) → (inner == 0) ≡ s → (place == 0) ≡ t → some_in (entries_at v Indirect inner) place k ≡ u → (not s && (t || u)) ≡ true → HasBetween indices ii (data_in g jj k)
+          by : (s t u : Bool) → (inner == 0) ≡ s → (place == 0) ≡ t → some_in (entries_at v Indirect inner) place k ≡ u → (not s && (t || u)) ≡ true → HasBetween indices ii (number_under g Indirect jj k)
           by true t u a b c h = absurd (let e : false ≡ true = h in cc)
           by false false false a b c h = absurd (let e : false ≡ true = h in cc)
           by false false true a b c h =
@@ -233,9 +234,9 @@ module _ (g : Request) (v : View) (n : ℕ) (indices : List ℕ) (shape : HasSha
               let r = some_below g v n indices shape jj (λ none. eqb-false inner 0 a (sym is_inner ∙ none)) in
               let first : place ≡ 0 = eqb-true place 0 b in
               let low : r.0 < k = r.1 in
-              (data_in g jj r.0, index_listed g v n indices shape (data_in g jj r.0) r.2, (let e : ii ≤ data_in g jj r.0 = omega arith in e), (let e : data_in g jj r.0 < data_in g jj k = omega arith in e))
+              (number_under g Indirect jj r.0, index_listed g v n indices shape (number_under g Indirect jj r.0) r.2, (let e : ii ≤ number_under g Indirect jj r.0 = omega arith in e), (let e : number_under g Indirect jj r.0 < number_under g Indirect jj k = omega arith in e))
 
-      stays_inner : inner_kept g v inner place ≡ true → HasBetween indices (data_in g jj 0) ii
+      stays_inner : inner_kept g v inner place ≡ true → HasBetween indices (number_under g Indirect jj 0) ii
       stays_inner kept =
           let parts = parts_of (inner == 0) (place == 0) (some_in (entries_at v Indirect inner) 0 place) kept in
           let r = some_in-found (entries_at v Indirect inner) 0 place parts.1 in
@@ -248,40 +249,40 @@ module _ (g : Request) (v : View) (n : ℕ) (indices : List ℕ) (shape : HasSha
           parts_of true t u h = absurd (let e : false ≡ true = h in cc)
 
     -- what goes of the double-indirect node
-    from_behind : HasBetween indices (data_in g (indirect_in g d (outer + 1)) 0) (data_in g (indirect_in g d k) 0) → HasBetween indices (data_in g jj 0) (data_in g (indirect_in g d k) 0)
-    from_behind goes = (goes.0, goes.1, (let low : data_in g (indirect_in g d (outer + 1)) 0 ≤ goes.0 = goes.2 in let next = behind_inner in let e : data_in g jj 0 ≤ goes.0 = omega arith in e), goes.3)
+    from_behind : HasBetween indices (number_under g Indirect (number_under g Double d (outer + 1)) 0) (number_under g Indirect (number_under g Double d k) 0) → HasBetween indices (number_under g Indirect jj 0) (number_under g Indirect (number_under g Double d k) 0)
+    from_behind goes = (goes.0, goes.1, (let low : number_under g Indirect (number_under g Double d (outer + 1)) 0 ≤ goes.0 = goes.2 in let next = behind_inner in let e : number_under g Indirect jj 0 ≤ goes.0 = omega arith in e), goes.3)
 
-    from_inner : HasBetween indices ii (data_in g jj k) → HasBetween indices (data_in g jj 0) (data_in g (indirect_in g d k) 0)
+    from_inner : HasBetween indices ii (number_under g Indirect jj k) → HasBetween indices (number_under g Indirect jj 0) (number_under g Indirect (number_under g Double d k) 0)
     from_inner goes = (
       goes.0,
       goes.1,
-      (let low : ii ≤ goes.0 = goes.2 in let e : data_in g jj 0 ≤ goes.0 = omega arith in e),
-      (let high : goes.0 < data_in g jj k = goes.3 in let next = behind_inner in let stop = upto_stop in let e : goes.0 < data_in g (indirect_in g d k) 0 = omega arith in e),
+      (let low : ii ≤ goes.0 = goes.2 in let e : number_under g Indirect jj 0 ≤ goes.0 = omega arith in e),
+      (let high : goes.0 < number_under g Indirect jj k = goes.3 in let next = behind_inner in let stop = upto_stop in let e : goes.0 < number_under g Indirect (number_under g Double d k) 0 = omega arith in e),
     )
 
-    top_goes_on : IsClear indices ii (data_in g (indirect_in g d k) 0) → Finds g indices ii (Whole (entry + 1))
+    top_goes_on : IsClear indices ii (number_under g Indirect (number_under g Double d k) 0) → Finds g indices ii (Whole (entry + 1))
     top_goes_on clear = record {
       goes_through = (let e : entry + 1 ≤ entries_of g = omega arith in e);
       takes = tt;
-      same = subst (SameBefore indices ii) (sym top_stop) (clear_up indices ii (data_in g (indirect_in g d k) 0) (let stop = upto_stop in let next = behind_inner in omega arith) clear);
+      same = subst (SameBefore indices ii) (sym top_stop) (clear_up indices ii (number_under g Indirect (number_under g Double d k) 0) (let stop = upto_stop in let next = behind_inner in omega arith) clear);
     }
 
-    top_goes_back : IsClear indices (data_in g (indirect_in g d 0) 0) ii → Finds g indices ii (Whole entry)
+    top_goes_back : IsClear indices (number_under g Indirect (number_under g Double d 0) 0) ii → Finds g indices ii (Whole entry)
     top_goes_back clear = record {
       goes_through = (let e : entry ≤ entries_of g = omega arith in e);
       takes = tt;
-      same = subst (SameBefore indices ii) (sym top_start) (clear_down indices ii (data_in g (indirect_in g d 0) 0) (let start = from_start in omega arith) clear);
+      same = subst (SameBefore indices ii) (sym top_start) (clear_down indices ii (number_under g Indirect (number_under g Double d 0) 0) (let start = from_start in omega arith) clear);
     }
 
-    both_found : HasBetween indices (data_in g jj 0) ii → HasBetween indices ii (data_in g jj k) → Finds g indices ii (Both entry outer place)
+    both_found : HasBetween indices (number_under g Indirect jj 0) ii → HasBetween indices ii (number_under g Indirect jj k) → Finds g indices ii (Both entry outer place)
     both_found stays goes = record {
       goes_through = (past, outer_low, (let m : place ≤ k = omega arith in m), stays);
       takes = goes;
       same = same_index indices ii ii refl;
     }
 
-    after_inner : HasBetween indices (data_in g jj 0) ii → IsClear indices ii (data_in g jj k)
-        → HasBetween indices (data_in g (indirect_in g d (outer + 1)) 0) (data_in g (indirect_in g d k) 0) → Finds g indices ii (Top entry (outer + 1))
+    after_inner : HasBetween indices (number_under g Indirect jj 0) ii → IsClear indices ii (number_under g Indirect jj k)
+        → HasBetween indices (number_under g Indirect (number_under g Double d (outer + 1)) 0) (number_under g Indirect (number_under g Double d k) 0) → Finds g indices ii (Top entry (outer + 1))
     after_inner stays clear goes = record {
       goes_through = (
         past,
@@ -289,20 +290,20 @@ module _ (g : Request) (v : View) (n : ℕ) (indices : List ℕ) (shape : HasSha
         (
           stays.0,
           stays.1,
-          (let low : data_in g jj 0 ≤ stays.0 = stays.2 in let start = from_start in let e : data_in g (indirect_in g d 0) 0 ≤ stays.0 = omega arith in e),
-          (let high : stays.0 < ii = stays.3 in let next = behind_inner in let e : stays.0 < data_in g (indirect_in g d (outer + 1)) 0 = omega arith in e),
+          (let low : number_under g Indirect jj 0 ≤ stays.0 = stays.2 in let start = from_start in let e : number_under g Indirect (number_under g Double d 0) 0 ≤ stays.0 = omega arith in e),
+          (let high : stays.0 < ii = stays.3 in let next = behind_inner in let e : stays.0 < number_under g Indirect (number_under g Double d (outer + 1)) 0 = omega arith in e),
         ),
       );
       takes = goes;
-      same = clear_up indices ii (data_in g (indirect_in g d (outer + 1)) 0) (let next = behind_inner in omega arith) (subst (IsClear indices ii) behind_inner clear);
+      same = clear_up indices ii (number_under g Indirect (number_under g Double d (outer + 1)) 0) (let next = behind_inner in omega arith) (subst (IsClear indices ii) behind_inner clear);
     }
 
-    before_inner : HasBetween indices (data_in g (indirect_in g d 0) 0) (data_in g jj 0) → IsClear indices (data_in g jj 0) ii
-        → HasBetween indices (data_in g jj 0) (data_in g (indirect_in g d k) 0) → Finds g indices ii (Top entry outer)
+    before_inner : HasBetween indices (number_under g Indirect (number_under g Double d 0) 0) (number_under g Indirect jj 0) → IsClear indices (number_under g Indirect jj 0) ii
+        → HasBetween indices (number_under g Indirect jj 0) (number_under g Indirect (number_under g Double d k) 0) → Finds g indices ii (Top entry outer)
     before_inner stays clear goes = record {
       goes_through = (past, (let m : outer ≤ k = omega arith in m), stays);
       takes = goes;
-      same = clear_down indices ii (data_in g jj 0) (omega arith) clear;
+      same = clear_down indices ii (number_under g Indirect jj 0) (omega arith) clear;
     }
 
     pub finds_double : Finds g indices ii (cut_double g v n entry outer place)
@@ -311,9 +312,9 @@ module _ (g : Request) (v : View) (n : ℕ) (indices : List ℕ) (shape : HasSha
         found : (there : entry_at v n entry ≢ 0) (lower kept higher cut : Bool) → some_in ts 0 outer ≡ lower → inner_kept g v inner place ≡ kept → some_in ts (outer + 1) k ≡ higher → inner_cut g v inner place ≡ cut
             → Finds g indices ii (through (lower || kept) (higher || cut) entry (between_double kept cut entry outer place))
         found there lower kept false false a b c e =
-            top_goes_on (join_clear indices ii (data_in g jj k) (data_in g (indirect_in g d k) 0) (clear_cut there e) (subst (λ (m : ℕ). IsClear indices m (data_in g (indirect_in g d k) 0)) (sym behind_inner) (clear_beside (outer + 1) k (omega arith) c)))
-        found there false false true cut a b c e = top_goes_back (join_clear indices (data_in g (indirect_in g d 0) 0) (data_in g jj 0) ii (clear_beside 0 outer (omega arith) a) (clear_kept there b))
-        found there false false false true a b c e = top_goes_back (join_clear indices (data_in g (indirect_in g d 0) 0) (data_in g jj 0) ii (clear_beside 0 outer (omega arith) a) (clear_kept there b))
+            top_goes_on (join_clear indices ii (number_under g Indirect jj k) (number_under g Indirect (number_under g Double d k) 0) (clear_cut there e) (subst (λ (m : ℕ). IsClear indices m (number_under g Indirect (number_under g Double d k) 0)) (sym behind_inner) (clear_beside (outer + 1) k (omega arith) c)))
+        found there false false true cut a b c e = top_goes_back (join_clear indices (number_under g Indirect (number_under g Double d 0) 0) (number_under g Indirect jj 0) ii (clear_beside 0 outer (omega arith) a) (clear_kept there b))
+        found there false false false true a b c e = top_goes_back (join_clear indices (number_under g Indirect (number_under g Double d 0) 0) (number_under g Indirect jj 0) ii (clear_beside 0 outer (omega arith) a) (clear_kept there b))
         found there true false true cut a b c e = before_inner (stays_beside 0 outer (omega arith) there a) (clear_kept there b) (from_behind (stays_beside (outer + 1) k (omega arith) there c))
         found there true false false true a b c e = before_inner (stays_beside 0 outer (omega arith) there a) (clear_kept there b) (from_inner (goes_inner there e))
         found there false true true true a b c e = both_found (stays_inner there b) (goes_inner there e)
@@ -328,7 +329,7 @@ module _ (g : Request) (v : View) (n : ℕ) (indices : List ℕ) (shape : HasSha
         by true e = top_goes_on (λ between. (top_pointer_in 0 k (omega arith) (
           between.0,
           between.1,
-          (let low : ii ≤ between.0 = between.2 in let start = from_start in let h : data_in g (indirect_in g d 0) 0 ≤ between.0 = omega arith in h),
+          (let low : ii ≤ between.0 = between.2 in let start = from_start in let h : number_under g Indirect (number_under g Double d 0) 0 ≤ between.0 = omega arith in h),
           between.3,
         )).0 (eqb-true (entry_at v n entry) 0 e))
         by false e = found (eqb-false (entry_at v n entry) 0 e) _ _ _ _ refl refl refl refl
@@ -338,7 +339,7 @@ module _ (g : Request) (v : View) (n : ℕ) (indices : List ℕ) (shape : HasSha
   finds_direct : (x : ℕ) → x < g.direct → x < max_blocks_of g → Finds g indices x (cut_at g v n x)
   finds_direct x low below_max =
       subst (Finds g indices x) (sym (cut_at-below g v n x below_max ∙ ap (cut_of_way g v n) (cond-true (ltb x g.direct) (way.Direct x) _ (lt-ltb x g.direct low))))
-      (record { goes_through = (let all = room g shape.geometry in let e : x ≤ entries_of g = omega arith in e); takes = tt; same = same_index indices x (first_in_entry g x) (sym (first-direct g positive x low)) })
+      (record { goes_through = (let all = entries_fit g shape.geometry in let e : x ≤ entries_of g = omega arith in e); takes = tt; same = same_index indices x (first_in_entry g x) (sym (first-direct g positive x low)) })
 
   div_mod : (m w : ℕ) → 0 < w → m ≡ m / w * w + m % w
   div_mod m w h = omega arith
@@ -350,7 +351,7 @@ module _ (g : Request) (v : View) (n : ℕ) (indices : List ℕ) (shape : HasSha
       let whole = div_mod (x - g.direct) k positive in
       let row_low : row < g.indirect = (div-lt_iff_lt-mul positive).1 low in
       let number : g.direct + row - g.direct ≡ row = omega arith in
-      let is : data_in g (g.direct + row - g.direct) spot ≡ x = ap (λ (m : ℕ). data_in g m spot) number ∙ (let e : data_in g row spot ≡ x = omega arith in e) in
+      let is : number_under g Indirect (g.direct + row - g.direct) spot ≡ x = ap (λ (m : ℕ). number_under g Indirect m spot) number ∙ (let e : number_under g Indirect row spot ≡ x = omega arith in e) in
       subst (Finds g indices x) (sym (cut_at-below g v n x below_max ∙ ap (cut_of_way g v n) (cond-false (ltb x g.direct) (way.Direct x) _ (le-ltb x g.direct past) ∙ cond-true (ltb (x - g.direct) (g.indirect * k)) (way.Single (g.direct + row) spot) _ (lt-ltb (x - g.direct) (g.indirect * k) low))))
       (subst (λ (y : ℕ). Finds g indices y (cut_single g v n (g.direct + row) spot)) is
       (finds_single (g.direct + row) spot (omega arith) (omega arith) (mod_below (x - g.direct) k positive)))
@@ -366,9 +367,9 @@ module _ (g : Request) (v : View) (n : ℕ) (indices : List ℕ) (shape : HasSha
       let whole = div_mod (x - g.direct) k positive in
       let rows = div_mod (row - g.indirect) k positive in
       let number : g.direct + g.indirect + table - g.direct - g.indirect ≡ table = omega arith in
-      let node : indirect_in g table outer ≡ row = omega arith in
-      let is : data_in g (indirect_in g (g.direct + g.indirect + table - g.direct - g.indirect) outer) spot ≡ x =
-      ap (λ (m : ℕ). data_in g (indirect_in g m outer) spot) number ∙ ap (λ (m : ℕ). data_in g m spot) node ∙ (let e : data_in g row spot ≡ x = omega arith in e) in
+      let node : number_under g Double table outer ≡ row = omega arith in
+      let is : number_under g Indirect (number_under g Double (g.direct + g.indirect + table - g.direct - g.indirect) outer) spot ≡ x =
+      ap (λ (m : ℕ). number_under g Indirect (number_under g Double m outer) spot) number ∙ ap (λ (m : ℕ). number_under g Indirect m spot) node ∙ (let e : number_under g Indirect row spot ≡ x = omega arith in e) in
       let row_low = indirect_below g.direct g.indirect (entries_of g - g.direct - g.indirect) k x below_max past in
       let table_low : table < entries_of g - g.direct - g.indirect = table_below g.indirect (entries_of g - g.direct - g.indirect) k row row_low row_from in
       let way_is : way_of g x ≡ way.Double (g.direct + g.indirect + table) outer spot =
@@ -387,7 +388,7 @@ module _ (g : Request) (v : View) (n : ℕ) (indices : List ℕ) (shape : HasSha
   })
     where
       last : first_in_entry g (entries_of g) ≡ max_blocks_of g
-      last = first-double g positive (entries_of g) (room g shape.geometry) ∙ rows g.direct g.indirect (entries_of g - g.direct - g.indirect) k
+      last = first-double g positive (entries_of g) (entries_fit g shape.geometry) ∙ rows g.direct g.indirect (entries_of g - g.direct - g.indirect) k
         where
           rows : (a b c w : ℕ) → a + ((b + (c * w + 0)) * w + 0) ≡ a + b * w + c * (w * w)
           rows a b c w = grind arith

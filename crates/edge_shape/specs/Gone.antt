@@ -6,7 +6,9 @@ use Rattle.edge_base.specs.declared.geometry.Request.{Request}
 use Rattle.edge_base.specs.layout.Places.{pointers_of}
 use Rattle.edge_store.specs.View.{View, is_spot}
 use Rattle.edge_store.specs.Placed.{entry_at, double_block, indirect_block, data_block, block_at}
-use Rattle.edge_shape.specs.Shape.{at, entries_at, data_in, indirect_in}
+use Rattle.edge_moves.specs.Relinks.{number_under}
+use Rattle.edge_moves.specs.Sound.{numbered}
+use Rattle.edge_shape.specs.Shape.{entries_at}
 
 -- the pointers that are taken away: entries, places of double-indirect nodes, places of indirect nodes
 pub record Pointers : Type 0 where
@@ -50,14 +52,14 @@ pub record Unlinks (g : Request) (v w : View) (n : ℕ) (taken : Pointers) : Typ
 -- Under each pointer node that stays, something stays.
 pub record Leaves (g : Request) (v : View) (n : ℕ) (taken : Pointers) : Type 0 where
   pub inner : (j : ℕ) → gone_indirect g taken j ≡ false → indirect_block g v n j ≢ 0
-      → (p : ℕ) × (p < pointers_of g) × (data_block g v n (data_in g j p) ≢ 0) × (taken.inner j p ≡ false)
+      → (p : ℕ) × (p < pointers_of g) × (data_block g v n (number_under g Indirect j p) ≢ 0) × (taken.inner j p ≡ false)
   pub outer : (d : ℕ) → gone_double g taken d ≡ false → double_block g v n d ≢ 0
-      → (s : ℕ) × (s < pointers_of g) × (indirect_block g v n (indirect_in g d s) ≢ 0) × (taken.outer d s ≡ false)
+      → (s : ℕ) × (s < pointers_of g) × (indirect_block g v n (number_under g Double d s) ≢ 0) × (taken.outer d s ≡ false)
 
 -- Each block of node n that stays has its form and owner in w too.
 abbrev pub KeepsSpots : Request → View → View → ℕ → Pointers → Type 0
-KeepsSpots g v w n taken = (form : Form) (m : ℕ) → gone g taken form m ≡ false → block_at g v (at n form m) ≢ 0
-    → is_spot w form n (block_at g v (at n form m)) ≡ true
+KeepsSpots g v w n taken = (form : Form) (m : ℕ) → gone g taken form m ≡ false → block_at g v (numbered n form m) ≢ 0
+    → is_spot w form n (block_at g v (numbered n form m)) ≡ true
 
 -- ---- pointers side by side
 

@@ -3,7 +3,6 @@ pub mod Gone
 pub mod Trees
 pub mod Cutting
 pub mod Trimmed
-pub mod Moved
 pub mod Where
 pub mod Steps
 pub mod Cut

@@ -5,17 +5,17 @@ use Rattle.edge_base.specs.declared.form.Form.TheVariants as form
 use Rattle.edge_base.specs.declared.geometry.Request.{Request}
 use Rattle.edge_base.specs.layout.Places.{entries_of, pointers_of}
 use Rattle.edge_store.specs.View.{View, IsView}
+use Rattle.edge_moves.specs.Renewal.{EntryRenewed, PointerRenewed}
 use Rattle.edge_shape.specs.declared.cut.Cut.{Cut}
 use Rattle.edge_shape.specs.declared.cut.Cut.TheVariants.{Whole, Node, Top, Both}
 use Rattle.edge_shape.specs.Trees.{IsSoundTree, IsSoundInode}
 use Rattle.edge_shape.specs.Cutting.{CutPlaces, CutEntries}
-use Rattle.edge_shape.specs.Moved.{OwnsEntry, OwnsPointer}
 
 -- The block of an entry, a pointer node, is made new and cut from a place on, and the entries behind it go.
 pub record NodeSteps (g : Request) (c v w : View) (n entry : ℕ) (f : Form) (place : ℕ) : Type 0 where
   pub block : ℕ
   pub owned : View
-  pub own : OwnsEntry g c v owned n entry f block
+  pub own : EntryRenewed g c v owned n entry block
   pub owned_view : IsView g owned
   pub trimmed : View
   pub trimmed_view : IsView g trimmed
@@ -28,10 +28,10 @@ pub record BothSteps (g : Request) (c v w : View) (n entry outer place : ℕ) : 
   pub node : ℕ
   pub one : View
   pub one_view : IsView g one
-  pub own_top : OwnsEntry g c v one n entry form.Double top
+  pub own_top : EntryRenewed g c v one n entry top
   pub two : View
   pub two_view : IsView g two
-  pub own_node : OwnsPointer g c one two form.Double n top outer form.Indirect node
+  pub own_node : PointerRenewed g c one two form.Double n top outer node
   pub three : View
   pub three_view : IsView g three
   pub cut_node : IsSoundTree g two form.Indirect n node → CutPlaces two three form.Indirect n node place (pointers_of g)

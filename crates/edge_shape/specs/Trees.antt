@@ -6,14 +6,9 @@ use Rattle.edge_base.specs.declared.form.Form.TheVariants.{Plain, Indirect, Doub
 use Rattle.edge_base.specs.declared.geometry.Request.{Request}
 use Rattle.edge_base.specs.layout.Places.{pointers_of, entries_of}
 use Rattle.edge_store.specs.View.{View, is_spot, is_link, is_whole}
+use Rattle.edge_store.specs.Damages.{form_of_entry, form_under}
 use Rattle.edge_store.specs.Placed.{entry_at}
 use Rattle.edge_shape.specs.Shape.{entries_at}
-
--- the form of the blocks that a pointer node points to
-abbrev pub below : Form → Form
-below Double = Indirect
-below Indirect = Plain
-below Plain = Plain
 
 -- whether x is the block b or one that hangs under it
 abbrev pub in_indirect : View → ℕ → ℕ → Bool
@@ -35,17 +30,13 @@ pub record IsSoundList (g : Request) (child : ℕ → Type 0) (tree : ℕ → �
 
 pub record IsSoundNode (g : Request) (v : View) (form : Form) (owner : ℕ) (child : ℕ → Type 0) (b : ℕ) : Type 0 where
   pub spot : is_spot v form owner b ≡ true
-  pub list : IsSoundList g child (in_tree v (below form)) b (entries_at v form b)
+  pub list : IsSoundList g child (in_tree v (form_under form)) b (entries_at v form b)
 
 -- the block is there with its form and owner, and what hangs under it is sound
 abbrev pub IsSoundTree : Request → View → Form → ℕ → ℕ → Type 0
 IsSoundTree g v Plain owner b = is_spot v Plain owner b ≡ true
 IsSoundTree g v Indirect owner b = IsSoundNode g v Indirect owner (λ c. is_spot v Plain owner c ≡ true) b
 IsSoundTree g v Double owner b = IsSoundNode g v Double owner (λ c. IsSoundNode g v Indirect owner (λ d. is_spot v Plain owner d ≡ true) c) b
-
--- the form of the block that an entry leads to
-abbrev pub form_of_entry : Request → ℕ → Form
-form_of_entry g e = if nat_lt e g.direct then Plain else (if nat_lt e (g.direct + g.indirect) then Indirect else Double)
 
 -- All that hangs under the entries of node n from one on is sound, and no two of them have a block in common.
 pub record IsSoundInode (g : Request) (v : View) (n from : ℕ) : Type 0 where

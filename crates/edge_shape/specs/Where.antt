@@ -1,16 +1,20 @@
 -- Where a cut at an index goes through the pointer nodes of a node, and how many blocks it makes new.
-use Rattle.std.specs.Prelude.{◌≢◌, ◌<◌, ◌≤◌, ℕ, ◌+◌, ◌-◌, ◌==◌, ◌||◌, ◌&&◌, not, Bool, nat_lt, if◌then◌else◌, List, slice_index}
+use Rattle.std.specs.Prelude.{◌≢◌, ◌<◌, ◌≤◌, ℕ, ◌+◌, ◌-◌, ◌==◌, ◌||◌, ◌&&◌, not, Bool, false, nat_lt, if◌then◌else◌, List, slice_index}
 use Rattle.std.specs.List.{list_any, range_with_len}
+use Rattle.edge_base.specs.declared.form.Form.{Form}
 use Rattle.edge_base.specs.declared.form.Form.TheVariants as form
 use Rattle.edge_base.specs.declared.geometry.Request.{Request}
 use Rattle.edge_base.specs.declared.way.Way.{Way}
 use Rattle.edge_base.specs.declared.way.Way.TheVariants as way
 use Rattle.edge_base.specs.layout.Places.{entries_of, pointers_of, max_blocks_of, way_of}
-use Rattle.edge_store.specs.View.{View, is_new}
+use Rattle.edge_base.specs.tree.Positions.{same_form}
+use Rattle.edge_store.specs.View.{View}
 use Rattle.edge_store.specs.Placed.{entry_at}
+use Rattle.edge_moves.specs.Relinks.{number_under}
+use Rattle.edge_moves.specs.Renewal.{cost}
 use Rattle.edge_shape.specs.declared.cut.Cut.{Cut}
 use Rattle.edge_shape.specs.declared.cut.Cut.TheVariants.{Whole, Node, Top, Both}
-use Rattle.edge_shape.specs.Shape.{entries_at, data_in, indirect_in, HasBetween}
+use Rattle.edge_shape.specs.Shape.{entries_at, data_under, HasBetween}
 
 -- whether some pointer is there in the places from one up to another
 abbrev pub some_in : List ℕ → ℕ → ℕ → Bool
@@ -56,46 +60,52 @@ cut_of_way g v n (way.Double entry outer place) = cut_double g v n entry outer p
 unfoldable pub cut_at : Request → View → ℕ → ℕ → Cut
 cut_at g v n i = if nat_lt i (max_blocks_of g) then cut_of_way g v n (way_of g i) else Whole (entries_of g)
 
+-- whether a cut goes through the pointer node of a form and a number
+abbrev pub is_through : Request → Cut → Form → ℕ → Bool
+is_through g (Whole entry) f m = false
+is_through g (Node entry place) f m = same_form f form.Indirect && (m == entry - g.direct)
+is_through g (Top entry place) f m = same_form f form.Double && (m == entry - g.direct - g.indirect)
+is_through g (Both entry outer place) f m =
+    (same_form f form.Double && (m == entry - g.direct - g.indirect))
+    || (same_form f form.Indirect && (m == number_under g form.Double (entry - g.direct - g.indirect) outer))
+
 -- ---- the first index that goes
 
 -- the first data block under an entry
 abbrev pub first_in_entry : Request → ℕ → ℕ
 first_in_entry g e =
     if nat_lt e g.direct then e
-    else if nat_lt e (g.direct + g.indirect) then data_in g (e - g.direct) 0
-    else data_in g (indirect_in g (e - g.direct - g.indirect) 0) 0
+    else if nat_lt e (g.direct + g.indirect) then data_under g form.Indirect (e - g.direct) 0
+    else data_under g form.Double (e - g.direct - g.indirect) 0
 
 abbrev pub first_gone : Request → Cut → ℕ
 first_gone g (Whole entry) = first_in_entry g entry
-first_gone g (Node entry place) = data_in g (entry - g.direct) place
-first_gone g (Top entry place) = data_in g (indirect_in g (entry - g.direct - g.indirect) place) 0
-first_gone g (Both entry outer place) = data_in g (indirect_in g (entry - g.direct - g.indirect) outer) place
+first_gone g (Node entry place) = data_under g form.Indirect (entry - g.direct) place
+first_gone g (Top entry place) = data_under g form.Double (entry - g.direct - g.indirect) place
+first_gone g (Both entry outer place) = data_under g form.Indirect (number_under g form.Double (entry - g.direct - g.indirect) outer) place
 
 -- Something of each pointer node that the cut goes through stays: one of the indices under it is before those that go.
 abbrev pub GoesThrough : Request → List ℕ → Cut → Type 0
 GoesThrough g indices (Whole entry) = entry ≤ entries_of g
 GoesThrough g indices (Node entry place) = (g.direct ≤ entry) × (entry < g.direct + g.indirect) × (place ≤ pointers_of g)
-    × HasBetween indices (data_in g (entry - g.direct) 0) (data_in g (entry - g.direct) place)
+    × HasBetween indices (data_under g form.Indirect (entry - g.direct) 0) (data_under g form.Indirect (entry - g.direct) place)
 GoesThrough g indices (Top entry place) = (g.direct + g.indirect ≤ entry) × (place ≤ pointers_of g)
-    × (let d = entry - g.direct - g.indirect in HasBetween indices (data_in g (indirect_in g d 0) 0) (data_in g (indirect_in g d place) 0))
+    × (let d = entry - g.direct - g.indirect in HasBetween indices (data_under g form.Double d 0) (data_under g form.Double d place))
 GoesThrough g indices (Both entry outer place) = (g.direct + g.indirect ≤ entry) × (outer < pointers_of g) × (place ≤ pointers_of g)
-    × (let node = indirect_in g (entry - g.direct - g.indirect) outer in HasBetween indices (data_in g node 0) (data_in g node place))
+    × (let node = number_under g form.Double (entry - g.direct - g.indirect) outer in HasBetween indices (data_under g form.Indirect node 0) (data_under g form.Indirect node place))
 
 -- Something of each of them goes, too.
 abbrev pub TakesFrom : Request → List ℕ → Cut → Type 0
 TakesFrom g indices (Whole entry) = Unit {0}
-TakesFrom g indices (Node entry place) = HasBetween indices (data_in g (entry - g.direct) place) (data_in g (entry - g.direct) (pointers_of g))
+TakesFrom g indices (Node entry place) = HasBetween indices (data_under g form.Indirect (entry - g.direct) place) (data_under g form.Indirect (entry - g.direct) (pointers_of g))
 TakesFrom g indices (Top entry place) =
-    let d = entry - g.direct - g.indirect in HasBetween indices (data_in g (indirect_in g d place) 0) (data_in g (indirect_in g d (pointers_of g)) 0)
+    let d = entry - g.direct - g.indirect in HasBetween indices (data_under g form.Double d place) (data_under g form.Double d (pointers_of g))
 TakesFrom g indices (Both entry outer place) =
-    let node = indirect_in g (entry - g.direct - g.indirect) outer in HasBetween indices (data_in g node place) (data_in g node (pointers_of g))
+    let node = number_under g form.Double (entry - g.direct - g.indirect) outer in HasBetween indices (data_under g form.Indirect node place) (data_under g form.Indirect node (pointers_of g))
 
 -- ---- what it needs
 
--- what making a block new takes from the free blocks
-abbrev pub cost : View → View → ℕ → ℕ
-cost committed working b = if is_new committed working b then 0 else 1
-
+-- what making the pointer nodes new takes that it goes through
 abbrev pub need_of : View → View → ℕ → Cut → ℕ
 need_of c v n (Whole entry) = 0
 need_of c v n (Node entry place) = cost c v (entry_at v n entry)

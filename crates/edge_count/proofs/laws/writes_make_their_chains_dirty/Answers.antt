@@ -1,4 +1,4 @@
-use Rattle.edge_shape.proofs.SpotLaws.{some_pointers}
+use Rattle.edge_moves.proofs.SlotLaws.{some_pointers_fit}
 use Rattle.edge_count.proofs.WriteLaws.{fresh_writes, fresh_chain, fresh_two, fresh_run}
 use Rattle.edge_count.proofs.laws.writes_make_their_chains_dirty.Goals as goal
 
@@ -12,4 +12,4 @@ pub returns-clause-two : goal.returns-clause-two
 returns-clause-two c = fresh_two
 
 pub returns-clause-run : goal.returns-clause-run
-returns-clause-run c g committed working n lo len geometry below = fresh_run g committed working n lo len below (some_pointers g geometry)
+returns-clause-run c g committed working n lo len geometry below = fresh_run g committed working n lo len below (some_pointers_fit g geometry)

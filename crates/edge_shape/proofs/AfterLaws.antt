@@ -1,5 +1,5 @@
 -- How many blocks are free after the next point, where a node is cut.
-use Rattle.std.proofs.Common.{◌≡◌, ◌≢◌, ℕ, zero, suc, ◌+◌, ◌<◌, ◌≤◌, ◌==◌, ◌||◌, not, Bool, true, false, cond, leb, ltb, List, [], ◌∷◌, refl, sym, ap, ◌∙◌, subst, arith, inl, inr, None}
+use Rattle.std.proofs.Common.{◌≡◌, ◌≢◌, ◌⊎◌, ℕ, zero, suc, ◌+◌, ◌<◌, ◌≤◌, ◌==◌, ◌||◌, not, Bool, true, false, cond, leb, ltb, List, [], ◌∷◌, refl, sym, ap, ◌∙◌, subst, arith, inl, inr, None}
 use Rattle.std.specs.Prelude.{is_some}
 use Rattle.std.specs.List.{list_any, count_by, range_with_len}
 use Rattle.std.specs.Cmp.{both_ways}
@@ -12,17 +12,26 @@ use Rattle.edge_base.specs.tree.Positions.{Position, same_position, has, count_o
 use Rattle.edge_base.specs.tree.Counting.{LeadTo}
 use Rattle.edge_base.proofs.ChainLaws.{has-positions_of-number}
 use Rattle.edge_base.proofs.CountLaws.{count_by-LeadTo}
-use Rattle.edge_base.proofs.PositionLaws.{same_position_Decides}
+use Rattle.edge_base.proofs.PositionLaws.{same_position_equiv, same_position_Decides}
 use Rattle.edge_store.specs.View.{View, is_used, is_allocable, free_after}
 use Rattle.edge_store.specs.Placed.{block_at}
-use Rattle.edge_shape.specs.declared.cut.Cut.{Cut}
-use Rattle.edge_shape.specs.Shape.{HasShape, at}
-use Rattle.edge_shape.specs.Cut.{IsCut}
+use Rattle.edge_moves.specs.Sound.{numbered}
+use Rattle.edge_moves.specs.Writable.{Came}
+use Rattle.edge_shape.specs.Shape.{HasShape}
 use Rattle.edge_shape.proofs.ListLaws.{is_false, true_false}
 use Rattle.edge_shape.proofs.ShapeLaws.{listed}
 use Rattle.edge_shape.proofs.LeaveLaws.{position_there}
 use Rattle.edge_shape.proofs.RenewLaws.{used_not_none, by_use, node_used}
-use Rattle.edge_count.proofs.WriteLaws.{position_found}
+
+-- ---- members of lists of positions
+
+-- a position of a list that passes a test
+pub position_found : (test : Position → Bool) (ps : List Position) → list_any test ps ≡ true → (p : Position) × (has ps p ≡ true) × (test p ≡ true)
+position_found test [] h = absurd (let e : false ≡ true = h in cc)
+position_found test (p ∷ ps) h = elim (or_cases (test p) (list_any test ps) h) [
+  | inl here ↦ (p, or_left (same_position p p) (has ps p) (same_position_equiv.refl p), here)
+  | inr rest ↦ let r = position_found test ps rest in (r.0, or_right (same_position r.0 p) (has ps r.0) r.1, r.2)
+]
 
 -- ---- counts of tests that do not meet
 
@@ -60,13 +69,13 @@ module _ (g : Request) (v : View) (n : ℕ) (indices : List ℕ) (shape : HasSha
   number_of p h = has-positions_of-number g n indices p h
 
   -- a position of the list, as one of node n
-  pub found_at : (b : ℕ) → is_of_node b ≡ true → (form : Form) × (m : ℕ) × (has ps (at n form m) ≡ true) × (block_at g v (at n form m) ≡ b)
+  pub found_at : (b : ℕ) → is_of_node b ≡ true → (form : Form) × (m : ℕ) × (has ps (numbered n form m) ≡ true) × (block_at g v (numbered n form m) ≡ b)
   found_at b h =
       let f = position_found (λ p. block_at g v p == b) ps h in
       by f.0.number f.0.form f.0.index (number_of f.0 f.1) f.1 (eqb-true (block_at g v f.0) b f.2)
     where
-      by : (k : ℕ) (form : Form) (m : ℕ) → k ≡ n → has ps (at k form m) ≡ true → block_at g v (at k form m) ≡ b → (f : Form) × (l : ℕ) × (has ps (at n f l) ≡ true) × (block_at g v (at n f l) ≡ b)
-      by k form m is h e = (form, m, subst (λ (x : ℕ). has ps (at x form m) ≡ true) is h, subst (λ (x : ℕ). block_at g v (at x form m) ≡ b) is e)
+      by : (k : ℕ) (form : Form) (m : ℕ) → k ≡ n → has ps (numbered k form m) ≡ true → block_at g v (numbered k form m) ≡ b → (f : Form) × (l : ℕ) × (has ps (numbered n f l) ≡ true) × (block_at g v (numbered n f l) ≡ b)
+      by k form m is h e = (form, m, subst (λ (x : ℕ). has ps (numbered x form m) ≡ true) is h, subst (λ (x : ℕ). block_at g v (numbered x form m) ≡ b) is e)
 
   member_at : (qs : List Position) (p : Position) (b : ℕ) → has qs p ≡ true → block_at g v p ≡ b → list_any (λ q. block_at g v q == b) qs ≡ true
   member_at [] p b h e = h
@@ -75,8 +84,8 @@ module _ (g : Request) (v : View) (n : ℕ) (indices : List ℕ) (shape : HasSha
     | inr rest ↦ or_right (block_at g v q == b) _ (member_at qs p b rest e)
   ]
 
-  pub is_at : (form : Form) (m b : ℕ) → has ps (at n form m) ≡ true → block_at g v (at n form m) ≡ b → is_of_node b ≡ true
-  is_at form m b h e = member_at ps (at n form m) b h e
+  pub is_at : (form : Form) (m b : ℕ) → has ps (numbered n form m) ≡ true → block_at g v (numbered n form m) ≡ b → is_of_node b ≡ true
+  is_at form m b h e = member_at ps (numbered n form m) b h e
 
   pub of_node_used : (b : ℕ) → is_of_node b ≡ true → is_used v b ≡ true
   of_node_used b h =
@@ -92,7 +101,7 @@ module _ (g : Request) (v : View) (n : ℕ) (indices : List ℕ) (shape : HasSha
         let high : block_at g v p < first_allocable_of g + allocable_of g = high_of (block_at g v p) fits in
         (low, high, test);
     once = λ p q hp hq same. shape.once p q hp hq same;
-    each = λ b low high test. let f = found_at b test in (at n f.0 f.1, f.2, f.3);
+    each = λ b low high test. let f = found_at b test in (numbered n f.0 f.1, f.2, f.3);
   }
     where
       low_of : (b : ℕ) → is_allocable g b ≡ true → first_allocable_of g ≤ b
@@ -114,12 +123,17 @@ module _ (g : Request) (v : View) (n : ℕ) (indices : List ℕ) (shape : HasSha
 
 -- ---- a cut
 
-module _ (g : Request) (c v w : View) (n : ℕ) (cut : Cut) (indices rest : List ℕ) (shape : HasShape g v n indices) (is : IsCut g c v w n cut indices rest) where
+module _ (g : Request) (c v w : View) (n : ℕ) (indices rest : List ℕ) (shape : HasShape g v n indices) (shape_w : HasShape g w n rest)
+    (came : (form : Form) (m : ℕ) → has (positions_of g n rest) (numbered n form m) ≡ true
+    → (block_at g w (numbered n form m) ≡ block_at g v (numbered n form m)) ⊎ Came c v w (block_at g v (numbered n form m)) (block_at g w (numbered n form m)))
+    (dropped : (form : Form) (m : ℕ) → has (positions_of g n indices) (numbered n form m) ≡ true → has (positions_of g n rest) (numbered n form m) ≡ false → w.blocks (block_at g v (numbered n form m)) ≡ None)
+    (others : (b : ℕ) → is_used v b ≡ true → ((form : Form) (m : ℕ) → block_at g v (numbered n form m) ≢ 0 → block_at g v (numbered n form m) ≢ b) → w.blocks b ≡ v.blocks b)
+    (newly : (b : ℕ) → is_used w b ≡ true → v.blocks b ≡ None → (form : Form) × (m : ℕ) × (has (positions_of g n rest) (numbered n form m) ≡ true) × (block_at g w (numbered n form m) ≡ b)) where
   abbrev mine : ℕ → Bool
   mine = is_of_node g v n indices shape
 
   abbrev mine_after : ℕ → Bool
-  mine_after = is_of_node g w n rest is.shape
+  mine_after = is_of_node g w n rest shape_w
 
   none_free : (u : View) (b : ℕ) → u.blocks b ≡ None → not (is_used u b) ≡ true
   none_free u b none = ap (λ o. not (is_some o)) none
@@ -128,14 +142,14 @@ module _ (g : Request) (c v w : View) (n : ℕ) (cut : Cut) (indices rest : List
   forth b h = elim (by_use (w.blocks b)) [
     | inl free ↦ or_left (not (is_used w b)) (mine_after b) (none_free w b free)
     | inr used ↦ or_right (not (is_used w b)) (mine_after b) (elim (by_use (v.blocks b)) [
-      | inl none ↦ let r = is.used b used none in is_at g w n rest is.shape r.0 r.1 b r.2 r.3
+      | inl none ↦ let r = newly b used none in is_at g w n rest shape_w r.0 r.1 b r.2 r.3
       | inr was ↦
           let f = found_at g v n indices shape b (second (is_used v b) (mine b) was h) in
-          elim (cases_Bool (has (positions_of g n rest) (at n f.0 f.1))) [
-            | inr lost ↦ absurd (used_not_none (w.blocks b) used (ap w.blocks (sym f.3) ∙ is.dropped f.0 f.1 f.2 lost))
-            | inl kept ↦ elim (is.places f.0 f.1 kept) [
-              | inl same ↦ is_at g w n rest is.shape f.0 f.1 b kept (same ∙ f.3)
-              | inr away ↦ absurd (used_not_none (w.blocks b) used (ap w.blocks (sym f.3) ∙ away.0))
+          elim (cases_Bool (has (positions_of g n rest) (numbered n f.0 f.1))) [
+            | inr lost ↦ absurd (used_not_none (w.blocks b) used (ap w.blocks (sym f.3) ∙ dropped f.0 f.1 f.2 lost))
+            | inl kept ↦ elim (came f.0 f.1 kept) [
+              | inl same ↦ is_at g w n rest shape_w f.0 f.1 b kept (same ∙ f.3)
+              | inr away ↦ absurd (used_not_none (w.blocks b) used (ap w.blocks (sym f.3) ∙ away.gone))
             ]
           ]
     ])
@@ -151,12 +165,12 @@ module _ (g : Request) (c v w : View) (n : ℕ) (cut : Cut) (indices rest : List
     | inr used ↦ or_right (not (is_used v b)) (mine b) (elim (cases_Bool (mine b)) [
       | inl here ↦ here
       | inr other ↦
-          let far : (form : Form) (m : ℕ) → block_at g v (at n form m) ≢ 0 → block_at g v (at n form m) ≢ b = λ form m there at_b. true_false (sym (is_at g v n indices shape form m b (listed g v n indices shape form m there) at_b) ∙ other) in
-          let same = is.others b used far in
-          let f = found_at g w n rest is.shape b (second (is_used w b) (mine_after b) (ap is_some same ∙ used) h) in
-          elim (is.places f.0 f.1 f.2) [
-            | inl still ↦ absurd (far f.0 f.1 (λ none. position_there g w n rest is.shape f.0 f.1 f.2 (still ∙ none)) (sym still ∙ f.3))
-            | inr away ↦ absurd (used_not_none (v.blocks b) used (ap v.blocks (sym f.3) ∙ away.1))
+          let far : (form : Form) (m : ℕ) → block_at g v (numbered n form m) ≢ 0 → block_at g v (numbered n form m) ≢ b = λ form m there at_b. true_false (sym (is_at g v n indices shape form m b (listed g v n indices shape form m there) at_b) ∙ other) in
+          let same = others b used far in
+          let f = found_at g w n rest shape_w b (second (is_used w b) (mine_after b) (ap is_some same ∙ used) h) in
+          elim (came f.0 f.1 f.2) [
+            | inl still ↦ absurd (far f.0 f.1 (λ none. position_there g w n rest shape_w f.0 f.1 f.2 (still ∙ none)) (sym still ∙ f.3))
+            | inr away ↦ absurd (used_not_none (v.blocks b) used (ap v.blocks (sym f.3) ∙ away.fresh))
           ]
     ])
   ]
@@ -170,4 +184,4 @@ module _ (g : Request) (c v w : View) (n : ℕ) (cut : Cut) (indices rest : List
   free_after-cut =
       sym (not_others g v n indices shape)
       ∙ (λ i. count_by (λ b. both_ways (not (is_used v b) || mine b) (not (is_used w b) || mine_after b) (forth b) (back b) i) (range_with_len (first_allocable_of g) (allocable_of g)))
-      ∙ not_others g w n rest is.shape
+      ∙ not_others g w n rest shape_w
