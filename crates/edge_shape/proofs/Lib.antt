@@ -22,3 +22,4 @@ pub mod RenewLaws
 pub mod AfterLaws
 pub mod SplitLaws
 pub mod BlockLaws
+pub mod ChangeLaws

@@ -1,6 +1,6 @@
 //! Laws over the definitions of `specs/`: functions without effects.
 
-ghost use Rattle.std.specs.Prelude.{◌≡◌, ◌≢◌, ◌<◌, ◌≤◌, ℕ, ◌+◌, ◌&&◌, Bool, true, false, nat_le, nat_lt, List, ◌∷◌};
+ghost use Rattle.std.specs.Prelude.{◌≡◌, ◌≢◌, ◌<◌, ◌≤◌, ℕ, ◌+◌, ◌&&◌, Bool, true, false, nat_le, nat_lt, filter, List, [], ◌∷◌};
 ghost use Rattle.std.specs.List.{list_any};
 ghost use Rattle.edge_base.specs.declared.form.Form.{Form};
 ghost use Rattle.edge_base.specs.declared.form.Form.TheVariants.{Plain, Indirect, Double};
@@ -8,7 +8,7 @@ ghost use Rattle.edge_base.specs.declared.geometry.Request.{Request};
 ghost use Rattle.edge_base.specs.declared.way.Way.{Way};
 ghost use Rattle.edge_base.specs.layout.Places.{IsGeometry, IsWithinNodes, entries_of, pointers_of, max_blocks_of, way_of};
 ghost use Rattle.edge_base.specs.tree.Chains.{is_on_chain};
-ghost use Rattle.edge_store.specs.Changed.{SameMembers};
+ghost use Rattle.edge_store.specs.Changed.{SameMembers, NodeChanged, NodeDirtied, KeepsContents};
 ghost use Rattle.edge_store.specs.Placed.{entry_at, pointer_at, double_block, indirect_block, block_at, IsShaped};
 ghost use Rattle.edge_store.specs.View.{View, IsView, is_whole};
 ghost use Rattle.edge_moves.specs.Relinks.{Relinks};
@@ -160,4 +160,18 @@ pub fn a_cut_leaves_the_indices_before()
     ensures at_an_index { (g : Request) (c v w : View) (n i : ℕ) (indices : List ℕ)
         → HasShape g v n indices → Steps g c v w n (cut_at g v n i) → IsView g w
         → IsCut g c v w n i indices }
+{}
+
+/// A cut is a change at its node, which removes the data blocks from the index on and makes dirty what
+/// is above them and stays. The others hold what they held.
+pub fn a_cut_changes_its_node()
+    ensures changed { (g : Request) (c v w : View) (n i : ℕ) (indices : List ℕ)
+        → HasShape g v n indices → IsCut g c v w n i indices
+        → NodeChanged g v w n indices (before i indices) }
+    ensures dirtied { (g : Request) (c v w : View) (n i : ℕ) (indices : List ℕ)
+        → HasShape g v n indices → IsCut g c v w n i indices
+        → NodeDirtied g c v w n indices (before i indices) [] (filter (λ x. nat_le i x) indices) }
+    ensures contents { (g : Request) (c v w : View) (n i : ℕ) (indices : List ℕ)
+        → HasShape g v n indices → IsCut g c v w n i indices
+        → KeepsContents g v w n (before i indices) }
 {}

@@ -11,8 +11,8 @@ mod laws;
 
 pub use cut::Cut;
 pub use laws::{
-    a_cut_goes_through_what_stays, a_cut_leaves_the_indices_before, a_layout_makes_a_shape,
-    a_shape_is_of_members_alone, cut_pointers_leave_the_other_indices, gone_places_are_ranges,
-    gone_pointers_leave_a_shape, moved_blocks_keep_the_shape, trees_of_a_shaped_node_are_sound,
-    what_is_under_a_pointer_node_is_a_range,
+    a_cut_changes_its_node, a_cut_goes_through_what_stays, a_cut_leaves_the_indices_before,
+    a_layout_makes_a_shape, a_shape_is_of_members_alone, cut_pointers_leave_the_other_indices,
+    gone_places_are_ranges, gone_pointers_leave_a_shape, moved_blocks_keep_the_shape,
+    trees_of_a_shaped_node_are_sound, what_is_under_a_pointer_node_is_a_range,
 };
