@@ -1,5 +1,5 @@
-//! A store over a disk, which takes transaction points. So far the phases of a point, and a point of
-//! a cache with its bitmap.
+//! A store over a disk, which takes transaction points. So far the phases of a point are here, and
+//! a point of a cache with its bitmap.
 #![tactic(auto)]
 
 mod laws;
