@@ -11,3 +11,6 @@ pub mod BelowLaws
 pub mod SearchLaws
 pub mod ThroughLaws
 pub mod SizeLaws
+pub mod StepLaws
+pub mod NodeLaws
+pub mod FromLaws

@@ -2,9 +2,11 @@
 #![tactic(auto)]
 
 mod cost;
+mod cut;
 mod drop;
 mod entries;
 mod places;
 mod through;
 
 pub use cost::cut_cost;
+pub use cut::cut_from;
