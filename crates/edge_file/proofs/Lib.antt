@@ -1,0 +1,10 @@
+pub mod ByteLaws
+pub mod RangeLaws
+pub mod JoinLaws
+pub mod BlockLaws
+pub mod WriteLaws
+pub mod AnswerLaws
+pub mod LoopLaws
+pub mod StepLaws
+pub mod HeadLaws
+pub mod FileLaws

@@ -1,0 +1,59 @@
+use Rattle.std.proofs.Common.{◌≡◌, ◌∙◌, ◌+◌, ◌-◌, ◌*◌, ◌≤◌, ◌++◌, ℕ, List, length, take, drop, length-take, length-drop, sym, ap, subst, arith}
+use Rattle.std.proofs.lemmas.Result.{err_from_is_err_and}
+use Rattle.std.specs.Prelude.{Err}
+use Rattle.std.proofs.Math.Seq.{take-add}
+use Rattle.edge_base.specs.declared.geometry.Request.{Request}
+use Rattle.edge_tree.specs.Own.{UndamagedIf, IsNodeShaped}
+use Rattle.edge_file.specs.Writing.{RoomForBytes, WritesBytes}
+use Rattle.edge_file.proofs.LoopLaws.{WrittenSoFar}
+use Rattle.edge_file.proofs.StepLaws.{piece_place, first_written, next_written, next_undamaged}
+use Rattle.edge_file.proofs.write.write_bytes.Goals as goal
+
+pub loop-done-init : goal.loop-done-init
+loop-done-init g c = (let h : 0 ≤ length c.args.bytes.now = omega arith in h, first_written (g.S.Store.state c.args.s.now) c.args.n c.args.at c.requires.live c.requires.there)
+
+pub returns-in_err-write_in_block-clause-undamaged : goal.returns-in_err-write_in_block-clause-undamaged
+returns-in_err-write_in_block-clause-undamaged g c told shaped room d e =
+    let old = g.S.Store.state c.args.s.now in
+    let now = g.S.Store.state c.loop-done.s in
+    let so = c.loop-done.invariant.1 in
+    let low = c.loop-done.invariant.0 in
+    let done = c.loop-done.done in
+    let piece = c.first_piece-piece.result in
+    let list = c.args.bytes.now in
+    let a = take done list in
+    let rest = length list - done in
+    let long : length a ≡ done = omega (arith, length-take done list) in
+    let all : length a + rest ≡ length list = omega (arith, long) in
+    let part = take (done + piece.len - done) (drop done list) in
+    let fewer : length part ≤ rest = omega (arith, length-take (done + piece.len - done) (drop done list), length-drop done list) in
+    let place : piece.index * now.origin.request.block_size + piece.start ≡ c.args.at + length a =
+    ap (λ (r : Request). piece.index * r.block_size + piece.start) (sym c.geometry.ensures) ∙ piece_place c.geometry.result.block_size c.args.at done piece.index piece.start c.first_piece-piece.ensures.index c.first_piece-piece.ensures.start
+    ∙ ap (λ (k : ℕ). c.args.at + k) (sym long) in
+    let undamaged = subst (λ (x : ℕ). UndamagedIf {T = Unit {0}} now (IsNodeShaped now c.args.n) (RoomForBytes now c.args.n x (length part)) (Err c.in_err-write_in_block.field-0.0)) place c.in_err-write_in_block.ensures.undamaged in
+    let p = err_from_is_err_and c.from_residual.result c.from_residual.ensures.1 in
+    next_undamaged old now c.args.n c.args.at a (g.met.S.Store.is_geometry c.args.s.now) (λ told. g.met.S.Store.working_is_view c.args.s.now told c.requires.live) (λ told. g.met.S.Store.working_is_view c.loop-done.s told so.goes_on.live) so
+    (Err c.in_err-write_in_block.field-0.0) rest (length part) fewer undamaged told shaped (subst (λ (k : ℕ). RoomForBytes old c.args.n c.args.at k) (sym all) room) d (ap Err (sym p.2) ∙ sym p.1 ∙ e)
+
+pub loop-done-preserved : goal.loop-done-preserved
+loop-done-preserved g c =
+    let old = g.S.Store.state c.args.s.now in
+    let now = g.S.Store.state c.loop-done.s in
+    let new = g.S.Store.state c.write_in_block.new.s in
+    let so = c.loop-done.invariant.1 in
+    let low = c.loop-done.invariant.0 in
+    let done = c.loop-done.done in
+    let piece = c.first_piece-piece.result in
+    let list = c.args.bytes.now in
+    let a = take done list in
+    let part = take (done + piece.len - done) (drop done list) in
+    let call = c.in_ok-write_in_block.ensures in
+    let long : length a ≡ done = omega (arith, length-take done list) in
+    let place : piece.index * now.origin.request.block_size + piece.start ≡ c.args.at + length a =
+    ap (λ (r : Request). piece.index * r.block_size + piece.start) (sym c.geometry.ensures) ∙ piece_place c.geometry.result.block_size c.args.at done piece.index piece.start c.first_piece-piece.ensures.index c.first_piece-piece.ensures.start
+    ∙ ap (λ (k : ℕ). c.args.at + k) (sym long) in
+    let written = subst (λ (x : ℕ). WritesBytes now new c.args.n x part) place call.written in
+    let more : take (done + piece.len) list ≡ a ++ part = take-add done piece.len list ∙ ap (λ (k : ℕ). a ++ take k (drop done list)) (let e : piece.len ≡ done + piece.len - done = omega arith in e) in
+    let next = next_written old now c.args.n c.args.at a (g.met.S.Store.is_geometry c.args.s.now) (λ told. g.met.S.Store.working_is_view c.args.s.now told c.requires.live) (λ told. g.met.S.Store.working_is_view c.loop-done.s told so.goes_on.live) so
+    new part call.called call.point call.places call.heads call.readable (λ told. g.met.S.Store.working_is_view c.write_in_block.new.s told call.called.live) written in
+    (let h : done + piece.len ≤ length list = omega arith in h, subst (λ (l : List ℕ). WrittenSoFar old new c.args.n c.args.at l) (sym more) next)

@@ -1,0 +1,42 @@
+-- What calls do that write bytes of a node, where the views are told. s is a store as a call begins; old and new are it and the store
+-- after the call.
+use Rattle.std.specs.Prelude.{◌≡◌, ◌≢◌, ◌≤◌, ℕ, max, List, Option, Some, None}
+use Rattle.edge_base.specs.declared.node.Head.{Head}
+use Rattle.edge_store.specs.Placed.{HasPlaces, IsOnce, IsSized}
+use Rattle.edge_store.specs.State.{StoreState, Told}
+use Rattle.edge_store.specs.View.{View, entries_of_inode, free_now, head_of_inode}
+use Rattle.edge_file.specs.Bytes.{blocks_under}
+use Rattle.edge_file.specs.Rewritten.{fresh_on, IsWritten}
+
+-- as many blocks are free as positions on the chains of a range are not new
+abbrev pub RoomForBytes : StoreState → ℕ → ℕ → ℕ → Type 0
+RoomForBytes s n at len =
+    fresh_on s.origin.request s.committed s.working n (blocks_under s.origin.request at len)
+    ≤ free_now s.origin.request s.committed s.working
+
+abbrev pub IsNodeSized : StoreState → ℕ → Type 0
+IsNodeSized s n = IsSized s.origin.request s.working n
+
+-- Bytes of node n are written from a place on, if it had the shape of a node.
+abbrev pub WritesBytes : StoreState → StoreState → ℕ → ℕ → List ℕ → Type 0
+WritesBytes old new n at bytes = Told old → (indices : List ℕ)
+    → HasPlaces old.origin.request old.working n indices → IsOnce old.origin.request old.working n indices
+    → IsWritten old.origin.request old.committed old.working new.working n at bytes indices
+
+-- a head with at least this size
+abbrev pub grown : Option Head → ℕ → Option Head
+grown (Some head) size = Some (record head { size = max head.size size })
+grown None size = None
+
+-- node n has at least this size, and its head is as it was in all else
+abbrev pub GrowsTo : StoreState → StoreState → ℕ → ℕ → Type 0
+GrowsTo old new n size = Told old → head_of_inode (new.working.inodes n) ≡ grown (head_of_inode (old.working.inodes n)) size
+
+-- From v to w all blocks stay, the other inodes, and the entries of node n.
+pub record SameBlocks (v w : View) (n : ℕ) : Type 0 where
+  pub blocks : w.blocks ≡ v.blocks
+  pub others : (m : ℕ) → m ≢ n → w.inodes m ≡ v.inodes m
+  pub entries : entries_of_inode (w.inodes n) ≡ entries_of_inode (v.inodes n)
+
+abbrev pub KeepsBlocks : StoreState → StoreState → ℕ → Type 0
+KeepsBlocks old new n = Told old → SameBlocks old.working new.working n

@@ -1,0 +1,54 @@
+//! Laws over the definitions of `specs/`: functions without effects.
+
+ghost use Rattle.std.specs.Prelude.{◌≡◌, ◌<◌, ◌≤◌, ◌+◌, ◌/◌, ◌==◌, ℕ, Bool, true, false, List, ◌++◌, length, take, drop, slice_index};
+ghost use Rattle.std.specs.List.{list_any};
+ghost use Rattle.edge_base.specs.declared.geometry.Request.{Request};
+ghost use Rattle.edge_base.specs.layout.Places.{IsGeometry, max_size_of};
+ghost use Rattle.edge_base.specs.tree.Nodes.{file, indices_of};
+ghost use Rattle.edge_store.specs.Placed.{HasPlaces, HoldsNode};
+ghost use Rattle.edge_store.specs.View.{View, IsView, is_whole};
+ghost use Rattle.edge_file.specs.Bytes.{byte_of, bytes_at, with_bytes, blocks_under};
+ghost use Rattle.edge_file.specs.Rewritten.{IsWritten};
+
+/// Where a view holds a file whose absent blocks are zeros, the bytes of its blocks are those of
+/// its content, and zeros behind them. After a write it holds the file with the new bytes at their
+/// place, and the data blocks that they need besides.
+pub fn files_are_held_by_their_bytes()
+    ensures byte { (g : Request) (v : View) (n k : ℕ) (text : List ℕ) (present : List Bool)
+        → IsGeometry g → IsView g v → is_whole (v.inodes n) ≡ true
+        → HoldsNode g v n (file text present)
+        → ((k : ℕ) → list_any (λ i. i == k / g.block_size) (indices_of g (file text present))
+        ≡ false → slice_index text k ≡ 0)
+        → k < max_size_of g → byte_of g v n k ≡ slice_index text k }
+    ensures run { (g : Request) (v : View) (n at len : ℕ) (text : List ℕ) (present : List Bool)
+        → IsGeometry g → IsView g v → is_whole (v.inodes n) ≡ true
+        → HoldsNode g v n (file text present)
+        → ((k : ℕ) → list_any (λ i. i == k / g.block_size) (indices_of g (file text present))
+        ≡ false → slice_index text k ≡ 0)
+        → length text ≤ max_size_of g → at + len ≤ length text
+        → bytes_at g v n at len ≡ take len (drop at text) }
+    ensures written { (g : Request) (c v w : View) (n at : ℕ) (new : List ℕ)
+        (text after : List ℕ) (present flags : List Bool)
+        → IsGeometry g → IsView g v → IsView g w
+        → is_whole (v.inodes n) ≡ true → is_whole (w.inodes n) ≡ true
+        → HoldsNode g v n (file text present)
+        → ((k : ℕ) → list_any (λ i. i == k / g.block_size) (indices_of g (file text present))
+        ≡ false → slice_index text k ≡ 0)
+        → IsWritten g c v w n at new (indices_of g (file text present))
+        → ((k : ℕ) → slice_index after k ≡ with_bytes (slice_index text) at new k)
+        → ((i : ℕ) → list_any (λ j. j == i)
+        (blocks_under g at (length new) ++ indices_of g (file text present))
+        ≡ list_any (λ j. j == i) (indices_of g (file after flags)))
+        → HoldsNode g w n (file after flags) }
+{}
+
+/// A write and one behind it are one write of both.
+pub fn writes_follow_each_other()
+    ensures { (g : Request) (c v m w : View) (n at : ℕ) (first second indices : List ℕ)
+        → IsGeometry g → IsView g v → IsView g m → IsView g w
+        → is_whole (v.inodes n) ≡ true → is_whole (m.inodes n) ≡ true
+        → HasPlaces g v n indices → IsWritten g c v m n at first indices
+        → IsWritten g c m w n (at + length first) second
+        (blocks_under g at (length first) ++ indices)
+        → IsWritten g c v w n at (first ++ second) indices }
+{}

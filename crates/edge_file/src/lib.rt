@@ -1,0 +1,14 @@
+//! The bytes of files and directories, over any store.
+#![tactic(auto)]
+
+mod head;
+mod laws;
+mod piece;
+mod read;
+mod size;
+mod write;
+
+pub use laws::{files_are_held_by_their_bytes, writes_follow_each_other};
+pub use read::read_at;
+pub use size::grow;
+pub use write::{fill_at, write_at};
