@@ -60,4 +60,5 @@ IsEntryCost s n entry taken = Told s → taken ≡ cost s.committed s.working (e
 -- and of the double-indirect node of an entry, and the indirect node in a place of it
 abbrev pub IsPairCost : StoreState → ℕ → ℕ → ℕ → ℕ → Type 0
 IsPairCost s n entry outer taken = Told s
-    → taken ≡ cost s.committed s.working (entry_at s.working n entry) + cost s.committed s.working (pointer_at s.working Double (entry_at s.working n entry) outer)
+    → taken ≡ cost s.committed s.working (entry_at s.working n entry)
+    + cost s.committed s.working (pointer_at s.working Double (entry_at s.working n entry) outer)

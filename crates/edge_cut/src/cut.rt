@@ -143,8 +143,8 @@ fn cut_pair<S: Store>(
     cut_entries(s, n, entry + 1)
 }
 
-/// Removes the data blocks of a node from an index on, and the pointer nodes with nothing left under
-/// them.
+/// Removes the data blocks of a node from an index on, and the pointer nodes with nothing left
+/// under them.
 ///
 /// It takes as many free blocks as `cut_cost` counts. Where fewer are free, the store ends with a
 /// tangled node.

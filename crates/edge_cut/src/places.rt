@@ -12,8 +12,8 @@ use crate::drop::{drop_tree, form_below, lost, pointers, top_of};
 use edge_store::{Spot, Store, StoreFault};
 use edge_tree::pointer_link;
 
-/// Drops a block that a pointer node leads to, and all that hangs under it. Where the node itself is
-/// dropped with it, or the block `top` above the node, the store ends.
+/// Drops a block that a pointer node leads to, and all that hangs under it. Where the node itself
+/// is dropped with it, or the block `top` above the node, the store ends.
 pub(crate) fn drop_below<S: Store>(
     s: &mut S,
     at: Spot,
