@@ -32,7 +32,8 @@ pub(crate) fn reach<S: Store>(s: &mut S, n: u32, head: Head, size: u64) -> Resul
     s.set_head(n, Head { size, ..head })
 }
 
-/// Gives a node a size, if it is less than that. The new bytes are zeros, and no block is taken.
+/// Gives a node a size, if it is less than that. No block is taken or changed; the new bytes are
+/// zeros in a file that keeps its rules.
 pub fn grow<S: Store>(s: &mut S, n: u32, size: u64) -> Result<(), StoreFault>
     requires live { IsLive (S.state s.old) }
     requires number { IsNumber (S.state s.old) n }

@@ -113,7 +113,8 @@ fn fill_bytes<S: Store>(
 }
 
 /// Writes bytes of a file or a directory from byte `at` on. Where they end past its end, it ends
-/// there then, and what lies between is zeros. The size is set when the bytes are written.
+/// there then; what lies between stays what it was, which is zeros in a file that keeps its rules.
+/// The size is set when the bytes are written.
 ///
 /// Each data block is looked up once, and none is read. It takes as many free blocks as positions
 /// on the chains of these data blocks are not new. Where fewer are free, the store ends with a
