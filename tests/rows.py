@@ -1,6 +1,6 @@
 #!/usr/bin/env python3
-"""Computes what the tables of crates/edge_rows and crates/edge_part_rows have to answer, from docs/COMMANDS.md
-and docs/FORMAT.md alone, and compares. Lines with a statement that it does not know are counted and left out.
+"""Computes what the tables of crates/edge_rows, crates/edge_part_rows and crates/edge_store_rows have to answer, from
+the documents alone, and compares. Lines with a statement that it does not know are counted and left out.
 
 usage: tests/rows.py [CRATE..]"""
 import os
@@ -9,14 +9,11 @@ import tempfile
 import zlib
 
 from rows_model import (
-    Disk, Fails, Fault, HostDisk, HostFolder, Row, Run, bad_geometry, escaped, imap_node,
+    Disk, Fails, Fault, HostDisk, HostFolder, Row, Run, Unknown, bad_geometry, escaped, imap_node,
     imap_pairs, inode, master, metaroot, number, order_of, sealed, table, unescaped)
 from rows_script import (
     Bad, hex_in, number_in, path_in, reply_of, spelling_of, told_command)
-
-
-class Unknown(Exception):
-    """A statement that this program does not know."""
+from rows_store import StoreTable
 
 
 NUMBERS = [
@@ -430,7 +427,7 @@ def permitted(disk, loose):
             return
 
 
-CRATES = ["edge_rows", "edge_part_rows"]
+CRATES = ["edge_rows", "edge_part_rows", "edge_store_rows"]
 
 
 def main():
@@ -444,7 +441,8 @@ def judge(crate):
     rows, replies = (open(os.path.join(crate, name), encoding="ascii").read().splitlines() for name in ("stdin", "stdout"))
     with tempfile.TemporaryDirectory() as room:
         os.chdir(room)
-        judged, left, wrong, at = compare(Table(crate), rows, replies)
+        table = StoreTable() if os.path.basename(crate) == "edge_store_rows" else Table(crate)
+        judged, left, wrong, at = compare(table, rows, replies)
         os.chdir(crate)
     print(f"{os.path.basename(crate)}: {judged} rows judged, {left} left out, {wrong} wrong")
     return not wrong and at == len(replies)

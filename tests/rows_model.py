@@ -9,6 +9,10 @@ SIZES = (512, 1024, 2048, 4096)
 LINE, LINES, BYTES = 8209, 2**32 - 1, 2**40
 
 
+class Unknown(Exception):
+    """A statement that the tables' judge does not know."""
+
+
 class Fault(Exception):
     """What is wrong with a node, and where."""
 

@@ -1,0 +1,61 @@
+use crate::answer::push_told;
+use crate::blocks::ask_blocks;
+use crate::bytes::{ask_bytes, push_read};
+use crate::hand::ask_by_hand;
+use crate::space::ask_space;
+use anyhow::{Context, Result, bail};
+use edge_base::{Geometry, Request};
+use edge_plain::PlainStore;
+use edge_statement::{number32, word};
+use edge_store::Store;
+use std::alloc::Global;
+
+/// What the statements of a line answer.
+pub fn answer_row(alloc: Global, store: &mut Option<PlainStore>, line: &str) -> Result<String> {
+    let mut out = String::new(alloc);
+    for statement in line.split("; ") {
+        let words: Vec<&str> = statement.split(' ').collect(alloc)?;
+        if word(&words, 0)? == "volume" {
+            *store = Some(new_store(alloc, &words)?);
+            continue;
+        }
+        write!(out, "  {statement}: ")?;
+        let s = store.as_mut().context("no volume")?;
+        push_answer(alloc, &mut out, s, &words)?;
+        out.push('\n')?;
+    }
+    Ok(out)
+}
+
+// SIZE BLOCKS INODES DIRECT INDIRECT, behind the first word.
+fn new_store(alloc: Global, words: &[&str]) -> Result<PlainStore> {
+    let request = Request {
+        block_size: number32(words, 1)?,
+        blocks: number32(words, 2)?,
+        inodes: number32(words, 3)?,
+        name_max: 28,
+        direct: number32(words, 4)?,
+        indirect: number32(words, 5)?,
+    };
+    match Geometry::checked(request) {
+        Ok(geometry) => Ok(PlainStore::new(alloc, geometry)?),
+        Err(limit) => bail!("no geometry: {limit:?}"),
+    }
+}
+
+// Appends what a statement answers.
+fn push_answer<S: Store>(alloc: Global, out: &mut String, s: &mut S, words: &[&str]) -> Result<()> {
+    if !s.is_live() {
+        out.push_str("ended")?;
+        return Ok(());
+    }
+    let told = match word(words, 0)? {
+        "read" => return push_read(alloc, out, s, words),
+        "file" | "size" | "free" | "point" => ask_space(s, words)?,
+        "take" | "entry" | "pointer" | "drop" => ask_by_hand(s, words)?,
+        "write" | "fill" | "grow" => ask_bytes(alloc, s, words)?,
+        _ => ask_blocks(s, words)?,
+    };
+    push_told(out, told)?;
+    Ok(())
+}
