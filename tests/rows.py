@@ -211,6 +211,21 @@ class Table:
         yield "  " + {"first_zero_from": least, "free_in": least, "count": str(counted - zeros), "counts_in": str(zeros),
                       "check_word": f"{zlib.crc32(bits):08x}"}[call]
 
+    def do_imap_search(self, row, text, what, blocks, count, takes):
+        blocks, count, takes = int(blocks), int(count), int(takes)
+        nodes = 0 if blocks - 3 <= 8 * 480 else next(n for n in range(1, 1058) if blocks - 3 - 2 * n <= n * 8 * 496)
+        if nodes > 16:
+            raise Unknown(text)
+        bits = blocks - 3 - 2 * nodes
+        spread = list(range(16, bits, max(1, (bits - 16) // max(1, count))))[:count]
+        free = spread if what == "spread" else list(range(max(16, bits - count), bits))
+        taken = free[:takes]
+        # Each node on the way is read once, and twice where a bit of it is almost free. The cache has room for them all.
+        last = nodes - 1 if len(taken) < takes else taken[-1] // 3968 if taken else -1
+        pairs = {bit // 3968 for bit in spread if bit not in free} if what == "behind" else set()
+        reads = sum(1 + (node in pairs) for node in range(last + 1)) if nodes else 0
+        yield f"  {len(taken)} taken, the last {(taken or [16])[-1]}: {reads} reads, 0 writes"
+
     def do_command(self, row, text, *_):
         yield told_command(row.script + unescaped(text.partition(" ")[2]))
 

@@ -1,13 +1,15 @@
-//! A table of cases of parts that need no disk: the text of scripts and replies, bitmaps, check
-//! words and numbers. Each line of standard input is printed, and below it what it answers.
+//! A table of cases of single parts: the text of scripts and replies, bitmaps, check words and
+//! numbers. Each line of standard input is printed, and below it what it answers.
 //! `docs/TESTING.md` has the statements.
 #![tactic(auto)]
 
 mod bits;
+mod front;
 mod numbers;
 mod reply;
 mod row;
 mod script;
+mod search;
 
 use crate::row::answer_row;
 use anyhow::{Context, Result};

@@ -2,6 +2,7 @@ use crate::bits::push_bits;
 use crate::numbers::push_numbers;
 use crate::reply::push_reply;
 use crate::script::{push_command, push_word};
+use crate::search::push_search;
 use anyhow::{Context, Result, bail};
 use edge_statement::unescaped;
 use std::alloc::Global;
@@ -45,6 +46,7 @@ fn push_answer(
         "word" => push_word(alloc, out, text),
         "reply" => push_reply(alloc, out, script, &words),
         "bits" => push_bits(alloc, out, &words),
+        "imap_search" => push_search(alloc, out, &words),
         "numbers" => push_numbers(out),
         _ => bail!("no statement: {verb}"),
     }
