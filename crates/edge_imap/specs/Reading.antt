@@ -91,7 +91,8 @@ module _ {D : Type 0} (g : Ghosts D) where
         → number_at 8 8 (content_in g new (spare_place request committed (node_of request bit))) ≡ sequence
     -- and where it had, the number that it carries stays
     pub again : IsTrue (g.origin old.disk).shows → bit_in 0 working_old (node_of request bit) ≡ not (bit_in 0 committed (node_of request bit))
-        → number_at 8 8 (content_in g new (live_place request working_new (node_of request bit))) ≡ number_at 8 8 (content_in g old (live_place request working_old (node_of request bit)))
+        → number_at 8 8 (content_in g new (live_place request working_new (node_of request bit)))
+        ≡ number_at 8 8 (content_in g old (live_place request working_old (node_of request bit)))
     pub bits : IsTrue (g.origin old.disk).shows → (i : ℕ) → bit_under request working_new (content_in g new) i
         ≡ (if i == bit then used else bit_under request working_old (content_in g old) i)
     pub node : IsTrue (g.origin old.disk).shows → IsNode request (node_of request bit) (content_in g old (live_place request working_old (node_of request bit)))
@@ -100,7 +101,8 @@ module _ {D : Type 0} (g : Ghosts D) where
   -- The working list has this value at a bit, and the list of the last point is the same.
   pub record Sets (sequence bit : ℕ) (used : Bool) (m_old m_new : Bitmaps) (old new : Cached D) : Type 0 where
     pub working :
-        IsTrue (g.origin old.disk).shows → ChangesUse m_old.geometry (table_start_of m_old.geometry + bit) used (working_use m_old (content_in g old)) (working_use m_new (content_in g new))
+        IsTrue (g.origin old.disk).shows
+        → ChangesUse m_old.geometry (table_start_of m_old.geometry + bit) used (working_use m_old (content_in g old)) (working_use m_new (content_in g new))
     pub committed : IsTrue (g.origin old.disk).shows → (b : ℕ) → committed_use m_new (content_in g new) b ≡ committed_use m_old (content_in g old) b
     -- of a bitmap in imap nodes the place that is not live in the last point may have been written, and no other block
     pub writes : is_inline_of m_old.geometry ≡ false → OnlyWrites (spare_place m_old.geometry m_old.committed (node_of m_old.geometry bit)) old new

@@ -54,6 +54,7 @@ module _ (g : Request) (c v w : View) (n i : ℕ) (indices : List ℕ) (view : I
 
   pub writable_changed : NodeChanged g v w n indices (i ∷ indices)
   writable_changed = record {
+    were = places;
     places = made.places;
     once = made.once;
     inodes = made.inodes;

@@ -134,10 +134,10 @@ fn close<A: Ask>(ask: &mut A, how: How) -> How
     }
 }
 
-/// Answers a script line by line: a line that spells a command is asked, at the clock's next moment,
-/// and any other is bad. The text of an answer is given to the sink once the command and its points
-/// are done, before the next line is taken up. At the end of the script and at a limit it finishes;
-/// after a fault of the source or of the sink it takes no further point.
+/// Answers a script line by line: a line that spells a command is asked, at the clock's next
+/// moment, and any other is bad. The text of an answer is given to the sink once the command and
+/// its points are done, before the next line is taken up. At the end of the script and at a limit
+/// it finishes; after a fault of the source or of the sink it takes no further point.
 pub fn session<A: Ask, S: Source, K: Sink, C: Clock>(
     ask: &mut A,
     src: &mut S,

@@ -116,6 +116,7 @@ module _ (g : Request) (c v w : View) (n i : ℕ) (indices : List ℕ) (shape : 
 
   pub cut_changed : NodeChanged g v w n indices (before i indices)
   cut_changed = record {
+    were = shape.places;
     places = cut.shape.places;
     once = cut.shape.once;
     inodes = cut.inodes;

@@ -162,8 +162,8 @@ pub fn a_cut_leaves_the_indices_before()
         → IsCut g c v w n i indices }
 {}
 
-/// A cut is a change at its node, which removes the data blocks from the index on and makes dirty what
-/// is above them and stays. The others hold what they held.
+/// A cut is a change at its node, which removes the data blocks from the index on and makes dirty
+/// what is above them and stays. The others hold what they held.
 pub fn a_cut_changes_its_node()
     ensures changed { (g : Request) (c v w : View) (n i : ℕ) (indices : List ℕ)
         → HasShape g v n indices → IsCut g c v w n i indices

@@ -10,7 +10,7 @@ use Rattle.edge_base.specs.tree.Nodes.{Node, indices_of}
 use Rattle.edge_store.specs.Changed.{NodeChanged, NodeDirtied}
 use Rattle.edge_store.specs.Effects.{HeadSet, InodeMade, InodeDropped}
 use Rattle.edge_store.specs.View.{View, Inode, whole, IsView, bytes, is_number, empty_inode, with_head}
-use Rattle.edge_store.specs.Placed.{HoldsNode, IsOnce}
+use Rattle.edge_store.specs.Placed.{HasPlaces, HoldsNode, IsOnce}
 use Rattle.edge_store.proofs.NodeEffects.{head_stays, head_contents, stays_changed, stays_dirty, made_changed, dropped_changed, blockless_dirty}
 use Rattle.edge_model.specs.Tree.{Tree, with_node}
 use Rattle.edge_stands.specs.Dirtied.{TreeDirtied}
@@ -118,10 +118,13 @@ module _ (g : Request) (v w : View) (t : Tree) (links : ℕ → ℕ) (n : ℕ) (
   nothing : indices_at g (t n) ≡ []
   nothing = ap (indices_at g) there ∙ empty
 
+  were : HasPlaces g v n []
+  were = subst (HasPlaces g v n) empty (s.nodes n node there).holds.places
+
   pub dropped_becomes : (now : ℕ) → NodeBecomes g v w t n None now
   dropped_becomes now = record {
     stands = ap (λ (u : View). u.inodes n) dropped ∙ update_here v.inodes n None;
-    changed = subst (λ is. NodeChanged g v w n is []) (sym nothing) (dropped_changed g v w n dropped);
+    changed = subst (λ is. NodeChanged g v w n is []) (sym nothing) (dropped_changed g v w n were dropped);
   }
 
   pub dropped_dirtied : (c : View) → NodeDirtied g c v w n (indices_at g (t n)) [] [] []

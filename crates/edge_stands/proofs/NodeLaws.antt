@@ -90,7 +90,7 @@ node_up g x indices p q h up =
     (λ (k : IsAmong (above_data g x r.0) p). data_up g x r.0 p q k over)
     r.2))
 
-listed : (is : List ℕ) (i : ℕ) → list_any (λ k. k == i) is ≡ true → IsAmong is i
+pub listed : (is : List ℕ) (i : ℕ) → list_any (λ k. k == i) is ≡ true → IsAmong is i
 listed [] i h = absurd (false≢true h)
 listed (k ∷ ks) i h = ⊎_elim (λ here. inl (sym (eqb-true k i here))) (λ later. inr (listed ks i later)) (or_cases (k == i) (list_any (λ j. j == i) ks) h)
 

@@ -3,11 +3,16 @@ ghost use Rattle.edge_base.specs.commands.Events.{has_event, full};
 ghost use Rattle.edge_base.specs.declared.geometry.Request.{Request};
 ghost use Rattle.edge_base.specs.layout.Places.{IsGeometry, allocable_of};
 ghost use Rattle.edge_base.specs.tree.Nodes.{Node, indices_of};
+ghost use Rattle.edge_base.specs.tree.NodeRules.{IsNode};
 ghost use Rattle.edge_base.specs.tree.Positions.{Position, data_at, has, count_of};
 ghost use Rattle.edge_store.specs.Changed.{NodeDirtied};
 ghost use Rattle.edge_store.specs.Effects.{HeadSet, InodeMade, InodeDropped, IsLeastFree};
 ghost use Rattle.edge_store.specs.Fresh.{fresh_count};
+ghost use Rattle.edge_store.specs.Frames.{IsNoNodeOf};
+ghost use Rattle.edge_store.specs.Placed.{data_block, HasPlaces, IsOnce, IsShaped, IsSized, HasNode};
 ghost use Rattle.edge_store.specs.View.{View, IsView, is_number, free_now, free_after, free_inodes};
+ghost use Rattle.edge_shape.specs.Shape.{HasShape};
+ghost use Rattle.edge_count.specs.Frames.{AreApart};
 ghost use Rattle.edge_model.specs.Asked.{Asked, room};
 ghost use Rattle.edge_model.specs.Asking.{IsInLimits};
 ghost use Rattle.edge_model.specs.Bytes.{IsOfBytes};
@@ -31,6 +36,34 @@ pub fn standing_with_links()
     ensures agreed { (g : Request) (v : View) (t : Tree) (links : ℕ → ℕ)
         → StandsWith g v t links
         → ((n : ℕ) → is_some (t n) ≡ true → links n ≡ links_of g t n) → StandsFor g v t }
+{}
+
+/// What a view that stands for a tree tells of its nodes, whatever links are told: all that a call
+/// over one node, or over two, asks of it. A number without a node has no data blocks.
+pub fn nodes_of_a_standing_view()
+    ensures number { (g : Request) (v : View) (t : Tree) (links : ℕ → ℕ) (n : ℕ)
+        → IsView g v → StandsWith g v t links
+        → is_some (t n) ≡ true → is_number g n ≡ true }
+    ensures places { (g : Request) (v : View) (t : Tree) (links : ℕ → ℕ) (n : ℕ)
+        → StandsWith g v t links → HasPlaces g v n (indices_at g (t n)) }
+    ensures once { (g : Request) (v : View) (t : Tree) (links : ℕ → ℕ) (n : ℕ)
+        → IsView g v → StandsWith g v t links → IsOnce g v n (indices_at g (t n)) }
+    ensures shape { (g : Request) (v : View) (t : Tree) (links : ℕ → ℕ) (n : ℕ) (node : Node)
+        → IsGeometry g → IsView g v → StandsWith g v t links
+        → t n ≡ Some node → HasShape g v n (indices_of g node) }
+    ensures shaped { (g : Request) (v : View) (t : Tree) (links : ℕ → ℕ) (n : ℕ) (node : Node)
+        → IsView g v → StandsWith g v t links → t n ≡ Some node → IsShaped g v n }
+    ensures sized { (g : Request) (v : View) (t : Tree) (links : ℕ → ℕ) (n : ℕ) (node : Node)
+        → IsGeometry g → IsView g v → StandsWith g v t links
+        → t n ≡ Some node → IsNode g node → IsSized g v n }
+    ensures node { (g : Request) (v : View) (t : Tree) (links : ℕ → ℕ) (n : ℕ) (node : Node)
+        → IsView g v → StandsWith g v t links
+        → t n ≡ Some node → IsNode g node → HasNode g v n node }
+    ensures apart { (g : Request) (v : View) (t : Tree) (links : ℕ → ℕ) (n m : ℕ)
+        → IsGeometry g → IsView g v → StandsWith g v t links → n ≢ m → AreApart g v n m }
+    ensures no_node { (g : Request) (v : View) (t : Tree) (links : ℕ → ℕ) (n m i : ℕ)
+        → IsGeometry g → IsView g v → StandsWith g v t links
+        → data_block g v n i ≢ 0 → IsNoNodeOf g v m (data_block g v n i) }
 {}
 
 /// Where a number's node has changed and no other, the view stands for the tree with that node, if

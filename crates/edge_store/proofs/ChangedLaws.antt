@@ -108,6 +108,7 @@ module _ (g : Request) (u v w : View) (n : ℕ) (a b d : List ℕ) (one : NodeCh
 
   pub changed_twice : NodeChanged g u w n a d
   changed_twice = record {
+    were = one.were;
     places = two.places;
     once = two.once;
     inodes = λ x other. two.inodes x other ∙ one.inodes x other;
@@ -153,6 +154,7 @@ turned xs ys same i = sym (same i)
 
 pub changed_same : (g : Request) (v w : View) (n : ℕ) (a b x y : List ℕ) → SameMembers a x → SameMembers b y → NodeChanged g v w n a b → NodeChanged g v w n x y
 changed_same g v w n a b x y old new c = record {
+  were = same_places g v n a x old c.were;
   places = same_places g w n b y new c.places;
   once = same_once g w n b y new c.once;
   inodes = c.inodes;

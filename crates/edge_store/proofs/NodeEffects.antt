@@ -116,6 +116,7 @@ or_false false = refl
 module _ (g : Request) (v w : View) (n : ℕ) (indices : List ℕ) (s : StaysInPlace g v w n indices) where
   pub stays_changed : NodeChanged g v w n indices indices
   stays_changed = record {
+    were = s.was_placed;
     places = record {
       places = λ p number low. subst (λ (b : ℕ). (b ≢ 0) ↔ (has (positions_of g n indices) p ≡ true)) (sym (s.low p number low)) (s.was_placed.places p number low);
       spots = λ p h. subst (λ (b : ℕ). is_spot w p.form n b ≡ true) (sym (s.same p h)) (s.spots p h);
@@ -314,8 +315,9 @@ module _ (g : Request) (w : View) (n k : ℕ) (none : entries_of_inode (w.inodes
   }
 
 -- where number n had no block and has none
-pub blockless_changed : (g : Request) (v : View) (n k : ℕ) (o : Option Inode) → entries_of_inode o ≡ replicate k 0 → NodeChanged g v (with_inode v n o) n [] []
-blockless_changed g v n k o none = record {
+pub blockless_changed : (g : Request) (v : View) (n k : ℕ) (o : Option Inode) → HasPlaces g v n [] → entries_of_inode o ≡ replicate k 0 → NodeChanged g v (with_inode v n o) n [] []
+blockless_changed g v n k o were none = record {
+  were = were;
   places = no_places g (with_inode v n o) n k (ap entries_of_inode (update_here v.inodes n o) ∙ none);
   once = λ p q one two e. absurd (false≢true one);
   inodes = λ x other. update_apart v.inodes n o x other;
@@ -328,10 +330,10 @@ pub blockless_dirty : (g : Request) (c v w : View) (n : ℕ) → NodeDirtied g c
 blockless_dirty g c v w n = record { dirty = λ p h. absurd (false≢true h); added = λ i there absent. absurd (false≢true there) }
 
 pub made_changed : (g : Request) (v w : View) (n : ℕ) (head : Head) → InodeMade g v w head (Some n) → NodeChanged g v w n [] []
-made_changed g v w n head made = subst (λ u. NodeChanged g v u n [] []) (sym made.1) (blockless_changed g v n (entries_of g) (Some (empty_inode g head)) refl)
+made_changed g v w n head made = subst (λ u. NodeChanged g v u n [] []) (sym made.1) (blockless_changed g v n (entries_of g) (Some (empty_inode g head)) (no_places g v n 0 (ap entries_of_inode made.0.absent)) refl)
 
-pub dropped_changed : (g : Request) (v w : View) (n : ℕ) → InodeDropped v w n → NodeChanged g v w n [] []
-dropped_changed g v w n dropped = subst (λ u. NodeChanged g v u n [] []) (sym dropped) (blockless_changed g v n 0 None refl)
+pub dropped_changed : (g : Request) (v w : View) (n : ℕ) → HasPlaces g v n [] → InodeDropped v w n → NodeChanged g v w n [] []
+dropped_changed g v w n were dropped = subst (λ u. NodeChanged g v u n [] []) (sym dropped) (blockless_changed g v n 0 None were refl)
 
 -- ---- positions on a chain are positions that a node may have
 

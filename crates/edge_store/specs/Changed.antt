@@ -29,7 +29,9 @@ IsNoBlockOf g v n indices b = (p : Position) → has (positions_of g n indices) 
 
 -- From v to w node n, which had the old data blocks, has come to have the new ones. No other node has changed.
 pub record NodeChanged (g : Request) (v w : View) (n : ℕ) (old new : List ℕ) : Type 0 where
-  -- its blocks are where its data blocks need them, and each at one position
+  -- its blocks were where the old data blocks need them
+  pub were : HasPlaces g v n old
+  -- they are where the new ones need them, and each at one position
   pub places : HasPlaces g w n new
   pub once : IsOnce g w n new
   -- other inodes, and all used blocks but those that it had, are as they were
@@ -42,7 +44,7 @@ pub record NodeChanged (g : Request) (v w : View) (n : ℕ) (old new : List ℕ)
   pub left : (b : ℕ) → is_used w b ≡ true → IsBlockOf g w n new b ⊎ ((is_used v b ≡ true) × IsNoBlockOf g v n old b)
 
 -- From v to w node n, which had the old data blocks and has the new ones, was changed in these ways: data blocks of it were written or
--- added, and others removed.
+-- added, and others removed. It is said beside NodeChanged, by which the node had these data blocks and has those.
 pub record NodeDirtied (g : Request) (c v w : View) (n : ℕ) (old new writes removes : List ℕ) : Type 0 where
   -- of its positions those are dirty that were, and those that such a change touches
   pub dirty : (p : Position) → has (positions_of g n new) p ≡ true

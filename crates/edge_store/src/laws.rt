@@ -238,11 +238,12 @@ pub fn bytes_that_are_set_move_no_block()
         → content_at w Plain (data_block g w n k) ≡ content_at v Plain (data_block g v n k) }
 {}
 
-/// An inode that is made or dropped is a node without blocks.
+/// An inode that is made has no blocks and had none before. One that had none is dropped with
+/// none.
 pub fn inodes_come_and_go_without_blocks()
     ensures made { (g : Request) (v w : View) (n : ℕ) (head : Head)
         → InodeMade g v w head (Some n) → NodeChanged g v w n [] [] }
     ensures dropped { (g : Request) (v w : View) (n : ℕ)
-        → InodeDropped v w n → NodeChanged g v w n [] [] }
+        → HasPlaces g v n [] → InodeDropped v w n → NodeChanged g v w n [] [] }
     ensures dirtied { (g : Request) (c v w : View) (n : ℕ) → NodeDirtied g c v w n [] [] [] [] }
 {}
