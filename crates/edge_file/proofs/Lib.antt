@@ -8,3 +8,5 @@ pub mod LoopLaws
 pub mod StepLaws
 pub mod HeadLaws
 pub mod FileLaws
+pub mod GrowLaws
+pub mod ChangeLaws

@@ -2,6 +2,7 @@
 -- after the call.
 use Rattle.std.specs.Prelude.{◌≡◌, ◌≢◌, ◌≤◌, ℕ, max, List, Option, Some, None}
 use Rattle.edge_base.specs.declared.node.Head.{Head}
+use Rattle.edge_store.specs.Effects.{HeadSet}
 use Rattle.edge_store.specs.Placed.{HasPlaces, IsOnce, IsSized}
 use Rattle.edge_store.specs.State.{StoreState, Told}
 use Rattle.edge_store.specs.View.{View, entries_of_inode, free_now, head_of_inode}
@@ -31,6 +32,15 @@ grown None size = None
 -- node n has at least this size, and its head is as it was in all else
 abbrev pub GrowsTo : StoreState → StoreState → ℕ → ℕ → Type 0
 GrowsTo old new n size = Told old → head_of_inode (new.working.inodes n) ≡ grown (head_of_inode (old.working.inodes n)) size
+
+-- The head of node n is set to one with at least this size, as it was in all else, and nothing else changes.
+abbrev pub GrowsHead : StoreState → StoreState → ℕ → ℕ → Type 0
+GrowsHead old new n size = Told old → (head : Head) → head_of_inode (old.working.inodes n) ≡ Some head
+    → HeadSet old.working new.working n (record head { size = max head.size size })
+
+-- each inode but that of number n stays
+abbrev pub KeepsInodesBut : StoreState → StoreState → ℕ → Type 0
+KeepsInodesBut old new n = Told old → (x : ℕ) → x ≢ n → new.working.inodes x ≡ old.working.inodes x
 
 -- From v to w all blocks stay, the other inodes, and the entries of node n.
 pub record SameBlocks (v w : View) (n : ℕ) : Type 0 where

@@ -1,12 +1,14 @@
 //! Laws over the definitions of `specs/`: functions without effects.
 
-ghost use Rattle.std.specs.Prelude.{◌≡◌, ◌<◌, ◌≤◌, ◌+◌, ◌/◌, ◌==◌, ℕ, Bool, true, false, List, ◌++◌, length, take, drop, slice_index};
+ghost use Rattle.std.specs.Prelude.{◌≡◌, ◌<◌, ◌≤◌, ◌+◌, ◌/◌, ◌==◌, ℕ, Bool, true, false, List, [], ◌++◌, length, take, drop, slice_index};
 ghost use Rattle.std.specs.List.{list_any};
 ghost use Rattle.edge_base.specs.declared.geometry.Request.{Request};
 ghost use Rattle.edge_base.specs.layout.Places.{IsGeometry, max_size_of};
 ghost use Rattle.edge_base.specs.tree.Nodes.{file, indices_of};
-ghost use Rattle.edge_store.specs.Placed.{HasPlaces, HoldsNode};
-ghost use Rattle.edge_store.specs.View.{View, IsView, is_whole};
+ghost use Rattle.edge_base.specs.declared.form.Form.TheVariants.{Plain};
+ghost use Rattle.edge_store.specs.Changed.{has_index, NodeChanged, NodeDirtied};
+ghost use Rattle.edge_store.specs.Placed.{data_block, HasPlaces, HoldsNode};
+ghost use Rattle.edge_store.specs.View.{View, IsView, content_at, is_whole};
 ghost use Rattle.edge_file.specs.Bytes.{byte_of, bytes_at, with_bytes, blocks_under};
 ghost use Rattle.edge_file.specs.Rewritten.{IsWritten};
 
@@ -51,4 +53,21 @@ pub fn writes_follow_each_other()
         → IsWritten g c m w n (at + length first) second
         (blocks_under g at (length first) ++ indices)
         → IsWritten g c v w n at (first ++ second) indices }
+{}
+
+/// A write is a change at its node that writes the data blocks of the run, or adds them. The others
+/// hold what they held.
+pub fn a_write_changes_its_node()
+    ensures changed { (g : Request) (c v w : View) (n at : ℕ) (new indices : List ℕ)
+        → IsView g v → HasPlaces g v n indices → IsWritten g c v w n at new indices
+        → NodeChanged g v w n indices (blocks_under g at (length new) ++ indices) }
+    ensures dirtied { (g : Request) (c v w : View) (n at : ℕ) (new indices : List ℕ)
+        → IsView g v → HasPlaces g v n indices → IsWritten g c v w n at new indices
+        → NodeDirtied g c v w n indices (blocks_under g at (length new) ++ indices)
+        (blocks_under g at (length new)) [] }
+    ensures contents { (g : Request) (c v w : View) (n at : ℕ) (new indices : List ℕ)
+        → IsView g v → HasPlaces g v n indices → IsWritten g c v w n at new indices
+        → (i : ℕ) → has_index indices i ≡ true
+        → has_index (blocks_under g at (length new)) i ≡ false
+        → content_at w Plain (data_block g w n i) ≡ content_at v Plain (data_block g v n i) }
 {}

@@ -3,9 +3,9 @@ ghost use Rattle.edge_base.specs.layout.Places.{max_size_of};
 ghost use Rattle.edge_store.specs.Calls.{Called, KeepsPoint, KeepsPlacesBut};
 ghost use Rattle.edge_store.specs.State.{IsLive, IsNumber, HasInode};
 ghost use Rattle.edge_store.specs.View.{is_head};
-ghost use Rattle.edge_tree.specs.Answers.{TellsWhatIs};
+ghost use Rattle.edge_tree.specs.Answers.{TellsWhatIs, NeverTangled, IsReadable};
 ghost use Rattle.edge_file.specs.Answers.{NeverOnSized, NeverOnWhole, HasHead};
-ghost use Rattle.edge_file.specs.Writing.{GrowsTo, KeepsBlocks};
+ghost use Rattle.edge_file.specs.Writing.{GrowsTo, GrowsHead, KeepsBlocks};
 
 use crate::head::sized_head;
 use edge_base::Head;
@@ -22,7 +22,10 @@ pub(crate) fn reach<S: Store>(s: &mut S, n: u32, head: Head, size: u64) -> Resul
     ensures point { KeepsPoint (S.state s.old) (S.state s.new) }
     ensures places { OnOk result (KeepsPlacesBut (S.state s.old) (S.state s.new) n) }
     ensures damage { TellsWhatIs (S.state s.old) (S.state s.new) result }
+    ensures untangled { NeverTangled (S.state s.old) result }
     ensures undamaged { NeverOnWhole (S.state s.old) n result }
+    ensures readable { OnOk result (IsReadable (S.state s.new) n) }
+    ensures set { OnOk result (GrowsHead (S.state s.old) (S.state s.new) n size) }
     ensures grown { OnOk result (GrowsTo (S.state s.old) (S.state s.new) n size) }
     ensures blocks { OnOk result (KeepsBlocks (S.state s.old) (S.state s.new) n) }
 {
@@ -43,7 +46,10 @@ pub fn grow<S: Store>(s: &mut S, n: u32, size: u64) -> Result<(), StoreFault>
     ensures point { KeepsPoint (S.state s.old) (S.state s.new) }
     ensures places { OnOk result (KeepsPlacesBut (S.state s.old) (S.state s.new) n) }
     ensures damage { TellsWhatIs (S.state s.old) (S.state s.new) result }
+    ensures untangled { NeverTangled (S.state s.old) result }
     ensures undamaged { NeverOnSized (S.state s.old) n result }
+    ensures readable { OnOk result (IsReadable (S.state s.new) n) }
+    ensures set { OnOk result (GrowsHead (S.state s.old) (S.state s.new) n size) }
     ensures grown { OnOk result (GrowsTo (S.state s.old) (S.state s.new) n size) }
     ensures blocks { OnOk result (KeepsBlocks (S.state s.old) (S.state s.new) n) }
 {

@@ -4,7 +4,7 @@ ghost use Rattle.edge_store.specs.Calls.{Called, KeepsPoint, KeepsPlacesBut};
 ghost use Rattle.edge_store.specs.State.{IsLive, IsNumber, HasInode};
 ghost use Rattle.edge_tree.specs.Answers.{TellsWhatIs, IsReadable};
 ghost use Rattle.edge_tree.specs.Own.{UndamagedIf, IsNodeShaped, KeepsHeads};
-ghost use Rattle.edge_file.specs.Writing.{RoomForBytes, IsNodeSized, WritesBytes, GrowsTo};
+ghost use Rattle.edge_file.specs.Writing.{RoomForBytes, IsNodeSized, WritesBytes, GrowsTo, KeepsInodesBut};
 
 use crate::head::sized_head;
 use crate::piece::{BLOCK_MOST, end_of, first_piece};
@@ -114,7 +114,8 @@ fn fill_bytes<S: Store>(
 
 /// Writes bytes of a file or a directory from byte `at` on. Where they end past its end, it ends
 /// there then; what lies between stays what it was, which is zeros in a file that keeps its rules.
-/// The size is set when the bytes are written.
+/// The size is set when the bytes are written. Where there are no bytes, the node is as long as the
+/// place all the same.
 ///
 /// Each data block is looked up once, and none is read. It takes as many free blocks as positions
 /// on the chains of these data blocks are not new. Where fewer are free, the store ends with a
@@ -130,6 +131,8 @@ pub fn write_at<S: Store>(s: &mut S, n: u32, at: u64, bytes: &[u8]) -> Result<()
     ensures damage { TellsWhatIs (S.state s.old) (S.state s.new) result }
     ensures undamaged { UndamagedIf (S.state s.old) (IsNodeSized (S.state s.old) n)
         (RoomForBytes (S.state s.old) n at (length bytes.now)) result }
+    ensures inodes { OnOk result (KeepsInodesBut (S.state s.old) (S.state s.new) n) }
+    ensures readable { OnOk result (IsReadable (S.state s.new) n) }
     ensures grown { OnOk result
         (GrowsTo (S.state s.old) (S.state s.new) n (at + length bytes.now)) }
     ensures written { OnOk result
@@ -153,6 +156,8 @@ pub fn fill_at<S: Store>(s: &mut S, n: u32, at: u64, count: u32, byte: u8) -> Re
     ensures damage { TellsWhatIs (S.state s.old) (S.state s.new) result }
     ensures undamaged { UndamagedIf (S.state s.old) (IsNodeSized (S.state s.old) n)
         (RoomForBytes (S.state s.old) n at count) result }
+    ensures inodes { OnOk result (KeepsInodesBut (S.state s.old) (S.state s.new) n) }
+    ensures readable { OnOk result (IsReadable (S.state s.new) n) }
     ensures grown { OnOk result (GrowsTo (S.state s.old) (S.state s.new) n (at + count)) }
     ensures written { OnOk result
         (WritesBytes (S.state s.old) (S.state s.new) n at (replicate count byte)) }
