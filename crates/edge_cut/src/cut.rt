@@ -40,6 +40,7 @@ fn cut_node<S: Store>(
         (RoomForCut (S.state s.old) n (node_cut form entry place)) result }
     ensures undamaged { NeverOnCut (S.state s.old) n (node_cut form entry place) result }
     ensures heads { OnOk result (KeepsHeads (S.state s.old) (S.state s.new) n) }
+    ensures there { OnOk result (HasInode (S.state s.new) n) }
     ensures steps { OnOk result
         (TakesSteps (S.state s.old) (S.state s.new) n (node_cut form entry place)) }
 {
@@ -121,6 +122,7 @@ fn cut_pair<S: Store>(
         (RoomForCut (S.state s.old) n (Both entry outer place)) result }
     ensures undamaged { NeverOnCut (S.state s.old) n (Both entry outer place) result }
     ensures heads { OnOk result (KeepsHeads (S.state s.old) (S.state s.new) n) }
+    ensures there { OnOk result (HasInode (S.state s.new) n) }
     ensures steps { OnOk result
         (TakesSteps (S.state s.old) (S.state s.new) n (Both entry outer place)) }
 {
@@ -161,6 +163,7 @@ pub fn cut_from<S: Store>(s: &mut S, n: u32, i: u32) -> Result<(), StoreFault>
     ensures undamaged { UndamagedIf (S.state s.old)
         (IsNodeShaped (S.state s.old) n) (RoomForCutAt (S.state s.old) n i) result }
     ensures heads { OnOk result (KeepsHeads (S.state s.old) (S.state s.new) n) }
+    ensures there { OnOk result (HasInode (S.state s.new) n) }
     ensures steps { OnOk result (TakesStepsAt (S.state s.old) (S.state s.new) n i) }
     ensures cut { OnOk result (CutsFrom (S.state s.old) (S.state s.new) n i) }
 {

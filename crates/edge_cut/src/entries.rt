@@ -46,6 +46,7 @@ pub(crate) fn cut_entries<S: Store>(s: &mut S, n: u32, from: u32) -> Result<(), 
     ensures untangled { NeverTangled (S.state s.old) result }
     ensures undamaged { NeverOnSoundInode (S.state s.old) n from result }
     ensures heads { OnOk result (KeepsHeads (S.state s.old) (S.state s.new) n) }
+    ensures there { OnOk result (HasInode (S.state s.new) n) }
     ensures cut { OnOk result (CutsEntries (S.state s.old) (S.state s.new) n from) }
 {
     for e in from..entries(s) {

@@ -106,6 +106,15 @@ returns-then-pair-clause-heads g c =
     absurd (no_pair two.working last.working c.args.n c.in_ok-pair.pair.top c.in_ok-pair.pair.node c.if-pair.true (first.spot told_two) (kept told_two) (dropped told_two)))
     c.drop_below.ensures.kept c.drop_below.ensures.dropped
 
+pub returns-then-pair-clause-there : goal.returns-then-pair-clause-there
+returns-then-pair-clause-there g c =
+    let two = g.S.Store.state c.own_pair.new.s in
+    let last = g.S.Store.state c.drop_below.new.s in
+    on_ok_both c.drop_below.result (λ kept dropped told.
+    let told_two : Told two = ap (λ o. o.tells) (sym c.drop_below.ensures.called.origin) ∙ told in
+    absurd (no_pair two.working last.working c.args.n c.in_ok-pair.pair.top c.in_ok-pair.pair.node c.if-pair.true (c.in_ok-pair.ensures.spot told_two) (kept told_two) (dropped told_two)))
+    c.drop_below.ensures.kept c.drop_below.ensures.dropped
+
 pub returns-then-pair-clause-steps : goal.returns-then-pair-clause-steps
 returns-then-pair-clause-steps g c =
     let old = g.S.Store.state c.args.s.now in

@@ -141,6 +141,12 @@ loop-e-preserved g c =
           rw w.s-is so_far
     ]
 
+pub returns-clause-there : goal.returns-clause-there
+returns-clause-there g c told =
+    let inv = c.loop-e.invariant in
+    let told_old : Told (g.S.Store.state c.args.s.now) = ap (λ o. o.tells) (sym inv.goes_on.called.origin) ∙ told in
+    inv.there told_old (c.requires.there told_old)
+
 pub returns-clause-cut : goal.returns-clause-cut
 returns-clause-cut g c =
     let old = g.S.Store.state c.args.s.now in
