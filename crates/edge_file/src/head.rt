@@ -50,7 +50,7 @@ fn too_great<S: Store>(s: &mut S, n: u32) -> StoreFault
 }
 
 /// The head of an inode that is there. A size that no file may have is damage of the inode's place.
-pub(crate) fn sized_head<S: Store>(s: &mut S, n: u32) -> Result<Head, StoreFault>
+pub fn sized_head<S: Store>(s: &mut S, n: u32) -> Result<Head, StoreFault>
     requires live { IsLive (S.state s.old) }
     requires number { IsNumber (S.state s.old) n }
     requires there { HasInode (S.state s.old) n }

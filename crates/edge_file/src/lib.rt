@@ -8,6 +8,7 @@ mod read;
 mod size;
 mod write;
 
+pub use head::sized_head;
 pub use laws::{a_write_changes_its_node, files_are_held_by_their_bytes, writes_follow_each_other};
 pub use read::read_at;
 pub use size::grow;
