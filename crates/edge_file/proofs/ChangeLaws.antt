@@ -20,12 +20,12 @@ use Rattle.edge_file.proofs.RangeLaws.{positions_both}
 
 -- ---- what writes touch
 
-all_kept : (ps : List Position) → filter (λ p. not false) ps ≡ ps
+pub all_kept : (ps : List Position) → filter (λ p. not false) ps ≡ ps
 all_kept [] = refl
 all_kept (p ∷ ps) = ap (λ qs. p ∷ qs) (all_kept ps)
 
 module _ (g : Request) (n : ℕ) where
-  chains : (xs : List ℕ) (p : Position) → (has (map (data_at n) xs) p || has (all_ancestors g (map (data_at n) xs)) p) ≡ has (positions_of g n xs) p
+  pub chains : (xs : List ℕ) (p : Position) → (has (map (data_at n) xs) p || has (all_ancestors g (map (data_at n) xs)) p) ≡ has (positions_of g n xs) p
   chains [] p = refl
   chains (x ∷ xs) p =
       ap (λ t. (same_position p (data_at n x) || has (map (data_at n) xs) p) || t) (has-append (above_data g n x) (all_ancestors g (map (data_at n) xs)) p)

@@ -1,4 +1,4 @@
--- Files whose bytes a view holds, before and after a write.
+-- Files whose bytes a view holds, before and after a write, and after they were made shorter.
 use Rattle.std.proofs.Common.{◌≡◌, ◌≢◌, ℕ, ◌+◌, ◌-◌, ◌*◌, ◌/◌, ◌%◌, ◌<◌, ◌≤◌, ◌&&◌, Bool, true, false, cond, min, inl, inr, List, ◌++◌, Option, Some, None, length, take, drop, length-append, length-take, length-drop, refl, sym, ap, ◌∙◌, subst, arith}
 use Rattle.std.specs.Prelude.{◌↔◌, replicate, slice_index, nat_le, nat_lt}
 use Rattle.std.proofs.lemmas.Bool.{cases_Bool, cases_lt}
@@ -12,11 +12,14 @@ use Rattle.edge_base.specs.declared.geometry.Request.{Request}
 use Rattle.edge_base.specs.layout.Places.{entries_of, pointers_of, max_blocks_of, max_size_of}
 use Rattle.edge_base.specs.tree.Nodes.{file, indices_of, padded, block_of}
 use Rattle.edge_base.specs.tree.Positions.{has, data_at, positions_of}
+use Rattle.edge_base.specs.tree.Slots.{pieces}
 use Rattle.edge_store.specs.Placed.{block_at, data_block, HasPlaces, HoldsNode}
 use Rattle.edge_store.specs.View.{View, Block, IsView, bytes, content, content_at, bytes_in, is_owned_by, is_whole}
 use Rattle.edge_store.proofs.ViewLaws.{unused_zero}
+use Rattle.edge_shape.specs.Shape.{before}
 use Rattle.edge_file.specs.Bytes.{byte_of, bytes_at, with_bytes, blocks_under}
 use Rattle.edge_file.specs.Rewritten.{IsWritten}
+use Rattle.edge_file.specs.Shortened.{IsShortened}
 use Rattle.edge_file.proofs.ByteLaws.{byte_in, bytes-get, length-bytes}
 use Rattle.edge_file.proofs.BlockLaws.{positions_first_of}
 use Rattle.edge_file.proofs.JoinLaws.{place_absent, place_in_range}
@@ -70,22 +73,15 @@ module _ (g : Request) (v : View) (n : ℕ) (text : List ℕ) (present : List Bo
       let low_k : k < len = subst (λ (m : ℕ). k < m) (length-bytes g v n at len) in_list in
       bytes-get g v n at len k low_k ∙ file_byte (at + k) (omega arith) ∙ sym (get_or-take len (drop at text) k 0 low_k ∙ get_or-drop at text k 0))
 
-  module _ (c w : View) (at : ℕ) (new : List ℕ) (view_w : IsView g w) (is_w : is_whole (w.inodes n) ≡ true) (written : IsWritten g c v w n at new (indices_of g (file text present)))
-      (after : List ℕ) (flags : List Bool) (put : (k : ℕ) → slice_index after k ≡ with_bytes (slice_index text) at new k)
-      (blocks : (i : ℕ) → lists (blocks_under g at (length new) ++ indices_of g (file text present)) i ≡ lists (indices_of g (file after flags)) i) where
-    places_after : HasPlaces g w n (indices_of g (file after flags))
-    places_after =
-        let alike = positions_alike g n (blocks_under g at (length new) ++ indices_of g (file text present)) (indices_of g (file after flags)) blocks in
-        record {
-          places = λ p number low. subst (λ (t : Bool). (block_at g w p ≢ 0) ↔ (t ≡ true)) (alike p) (written.rewritten.places.places p number low);
-          spots = λ p h. written.rewritten.places.spots p (alike p ∙ h);
-        }
+  -- ---- where the bytes are those of another text
 
+  module _ (w : View) (view_w : IsView g w) (is_w : is_whole (w.inodes n) ≡ true) (after : List ℕ) (flags : List Bool) (places : HasPlaces g w n (indices_of g (file after flags)))
+      (now : (k : ℕ) → k < max_size_of g → byte_of g w n k ≡ slice_index after k) where
     contents_after : (i : ℕ) → lists (indices_of g (file after flags)) i ≡ true → content_at w Plain (data_block g w n i) ≡ bytes (block_of g (file after flags) i)
     contents_after i there =
         let on : has (positions_of g n (indices_of g (file after flags))) (data_at n i) ≡ true = positions_first_of g n (indices_of g (file after flags)) i ∙ there in
-        let low = place_in_range g w n fits some view_w is_w (indices_of g (file after flags)) places_after (data_at n i) on in
-        by low (w.blocks (data_block g w n i)) refl (places_after.spots (data_at n i) on)
+        let low = place_in_range g w n fits some view_w is_w (indices_of g (file after flags)) places (data_at n i) on in
+        by low (w.blocks (data_block g w n i)) refl (places.spots (data_at n i) on)
       where
         by : i < max_blocks_of g → (o : Option Block) → w.blocks (data_block g w n i) ≡ o → is_owned_by n (content Plain o) ≡ true → content Plain o ≡ bytes (block_of g (file after flags) i)
         by low None e h = absurd (let f : false ≡ true = h in cc)
@@ -93,12 +89,36 @@ module _ (g : Request) (v : View) (n : ℕ) (text : List ℕ) (present : List Bo
             (view_w.full_blocks (data_block g w n i) block e ∙ sym (length-padded g after (i * g.block_size)))
             (λ r in_list.
             let low_r : r < g.block_size = subst (λ (m : ℕ). r < m) (view_w.full_blocks (data_block g w n i) block e) in_list in
-            let k = i * g.block_size + r in
-            let low_k = place_of_byte g i r low low_r in
             ap (λ o. slice_index (bytes_in (content Plain o)) r) (sym e)
-            ∙ sym (byte_in g w n i r low_r) ∙ written.bytes k low_k
-            ∙ ap (cond (nat_le at k && nat_lt k (at + length new)) (slice_index new (k - at))) (file_byte k low_k)
-            ∙ sym (put k) ∙ sym (padded_get g after (i * g.block_size) r low_r)))
+            ∙ sym (byte_in g w n i r low_r) ∙ now (i * g.block_size + r) (place_of_byte g i r low low_r) ∙ sym (padded_get g after (i * g.block_size) r low_r)))
 
-    pub file_written : HoldsNode g w n (file after flags)
-    file_written = record { places = places_after; contents = contents_after }
+  places_by : (w : View) (xs ys : List ℕ) → ((i : ℕ) → lists xs i ≡ lists ys i) → HasPlaces g w n xs → HasPlaces g w n ys
+  places_by w xs ys same places =
+      let alike = positions_alike g n xs ys same in
+      record {
+        places = λ p number low. subst (λ (t : Bool). (block_at g w p ≢ 0) ↔ (t ≡ true)) (alike p) (places.places p number low);
+        spots = λ p h. places.spots p (alike p ∙ h);
+      }
+
+  pub file_written : (c w : View) (at : ℕ) (new : List ℕ) → IsView g w → is_whole (w.inodes n) ≡ true → IsWritten g c v w n at new (indices_of g (file text present))
+      → (after : List ℕ) (flags : List Bool) → ((k : ℕ) → slice_index after k ≡ with_bytes (slice_index text) at new k)
+      → ((i : ℕ) → lists (blocks_under g at (length new) ++ indices_of g (file text present)) i ≡ lists (indices_of g (file after flags)) i) → HoldsNode g w n (file after flags)
+  file_written c w at new view_w is_w written after flags put blocks = record { places = places_after; contents = contents_after w view_w is_w after flags places_after now }
+    where
+      places_after : HasPlaces g w n (indices_of g (file after flags))
+      places_after = places_by w (blocks_under g at (length new) ++ indices_of g (file text present)) (indices_of g (file after flags)) blocks written.rewritten.places
+
+      now : (k : ℕ) → k < max_size_of g → byte_of g w n k ≡ slice_index after k
+      now k low = written.bytes k low ∙ ap (cond (nat_le at k && nat_lt k (at + length new)) (slice_index new (k - at))) (file_byte k low) ∙ sym (put k)
+
+  pub file_shortened : (c w : View) (size : ℕ) → IsShortened g c v w n size (indices_of g (file text present))
+      → (after : List ℕ) (flags : List Bool) → ((k : ℕ) → slice_index after k ≡ cond (nat_lt k size) (slice_index text k) 0)
+      → ((i : ℕ) → lists (before (pieces g.block_size size) (indices_of g (file text present))) i ≡ lists (indices_of g (file after flags)) i) → HoldsNode g w n (file after flags)
+  file_shortened c w size short after flags put blocks =
+      record { places = places_after; contents = contents_after w short.trimmed.shape.view short.trimmed.shape.inode after flags places_after now }
+    where
+      places_after : HasPlaces g w n (indices_of g (file after flags))
+      places_after = places_by w (before (pieces g.block_size size) (indices_of g (file text present))) (indices_of g (file after flags)) blocks short.trimmed.shape.places
+
+      now : (k : ℕ) → k < max_size_of g → byte_of g w n k ≡ slice_index after k
+      now k low = short.bytes k low ∙ ap (λ (x : ℕ). cond (nat_lt k size) x 0) (file_byte k low) ∙ sym (put k)

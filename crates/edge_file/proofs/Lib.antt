@@ -10,3 +10,8 @@ pub mod HeadLaws
 pub mod FileLaws
 pub mod GrowLaws
 pub mod ChangeLaws
+pub mod TrimLaws
+pub mod PieceLaws
+pub mod RestLaws
+pub mod SizeLaws
+pub mod TrimChangeLaws

@@ -59,7 +59,7 @@ with_bytes-more old at a b k = by (length a) (length b) (length (a ++ b)) refl r
 
 -- ---- nothing written yet
 
-none_under : (g : Request) (at i : ℕ) → lists [] i ≡ lists (blocks_under g at 0) i
+pub none_under : (g : Request) (at i : ℕ) → lists [] i ≡ lists (blocks_under g at 0) i
 none_under g at i = sym (lists_under g at 0 i ∙ and_right (nat_lt i (max_blocks_of g)) (is_under g at 0 i) refl)
 
 none_rewritten : (g : Request) (c v : View) (n : ℕ) (indices : List ℕ) → HasPlaces g v n indices → IsOnce g v n indices → IsRewritten g c v v n [] indices

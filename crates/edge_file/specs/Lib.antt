@@ -1,4 +1,5 @@
 pub mod Bytes
 pub mod Answers
 pub mod Rewritten
+pub mod Shortened
 pub mod Writing

@@ -1,13 +1,15 @@
 -- What calls do that write bytes of a node, where the views are told. s is a store as a call begins; old and new are it and the store
 -- after the call.
-use Rattle.std.specs.Prelude.{◌≡◌, ◌≢◌, ◌≤◌, ℕ, max, List, Option, Some, None}
+use Rattle.std.specs.Prelude.{◌≡◌, ◌≢◌, ◌<◌, ◌≤◌, ℕ, max, false, List, Option, Some, None, replicate}
 use Rattle.edge_base.specs.declared.node.Head.{Head}
 use Rattle.edge_store.specs.Effects.{HeadSet}
 use Rattle.edge_store.specs.Placed.{HasPlaces, IsOnce, IsSized}
 use Rattle.edge_store.specs.State.{StoreState, Told}
 use Rattle.edge_store.specs.View.{View, entries_of_inode, free_now, head_of_inode}
-use Rattle.edge_file.specs.Bytes.{blocks_under}
+use Rattle.edge_shape.specs.Shape.{HasShape}
+use Rattle.edge_file.specs.Bytes.{blocks_under, size_at}
 use Rattle.edge_file.specs.Rewritten.{fresh_on, IsWritten}
+use Rattle.edge_file.specs.Shortened.{has_rest, rest_of, shortening_need, IsShortened}
 
 -- as many blocks are free as positions on the chains of a range are not new
 abbrev pub RoomForBytes : StoreState → ℕ → ℕ → ℕ → Type 0
@@ -50,3 +52,42 @@ pub record SameBlocks (v w : View) (n : ℕ) : Type 0 where
 
 abbrev pub KeepsBlocks : StoreState → StoreState → ℕ → Type 0
 KeepsBlocks old new n = Told old → SameBlocks old.working new.working n
+
+-- ---- another size
+
+-- as many blocks are free as shortening needs
+abbrev pub RoomToShorten : StoreState → ℕ → ℕ → Type 0
+RoomToShorten s n size = shortening_need s.origin.request s.committed s.working n size ≤ free_now s.origin.request s.committed s.working
+
+-- as many as another size needs: none, where it is no less
+abbrev pub RoomForSize : StoreState → ℕ → ℕ → Type 0
+RoomForSize s n size = size < size_at s.working n → RoomToShorten s n size
+
+-- the bytes of the last block behind the size are zeros
+abbrev pub ClearsRest : StoreState → StoreState → ℕ → ℕ → Type 0
+ClearsRest old new n size = WritesBytes old new n size (replicate (rest_of old.origin.request old.working n size) 0)
+
+-- where there are none, all stays
+abbrev pub StaysWithoutRest : StoreState → StoreState → ℕ → ℕ → Type 0
+StaysWithoutRest old new n size = Told old → has_rest old.origin.request old.working n size ≡ false → new.working ≡ old.working
+
+-- Node n is cut behind so many bytes, if it had the shape of a node.
+abbrev pub Shortens : StoreState → StoreState → ℕ → ℕ → Type 0
+Shortens old new n size = Told old → (indices : List ℕ) → HasShape old.origin.request old.working n indices
+    → IsShortened old.origin.request old.committed old.working new.working n size indices
+
+-- the same where it had more bytes; else all blocks stay
+abbrev pub ShortensTo : StoreState → StoreState → ℕ → ℕ → Type 0
+ShortensTo old new n size = Told old → size < size_at old.working n → Shortens old new n size
+
+abbrev pub LengthensTo : StoreState → StoreState → ℕ → ℕ → Type 0
+LengthensTo old new n size = Told old → size_at old.working n ≤ size → SameBlocks old.working new.working n
+
+-- a head with this size
+abbrev pub sized : Option Head → ℕ → Option Head
+sized (Some head) size = Some (record head { size = size })
+sized None size = None
+
+-- node n has this size, and its head is as it was in all else
+abbrev pub SetsSize : StoreState → StoreState → ℕ → ℕ → Type 0
+SetsSize old new n size = Told old → head_of_inode (new.working.inodes n) ≡ sized (head_of_inode (old.working.inodes n)) size

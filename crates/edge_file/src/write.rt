@@ -78,7 +78,7 @@ fn write_bytes<S: Store>(s: &mut S, n: u32, at: u64, bytes: &[u8]) -> Result<(),
 
 /// Writes the byte of a list that has it everywhere, again and again, from byte `at` of a node on,
 /// and leaves its size.
-fn fill_bytes<S: Store>(
+pub(crate) fn fill_bytes<S: Store>(
     s: &mut S,
     n: u32,
     at: u64,

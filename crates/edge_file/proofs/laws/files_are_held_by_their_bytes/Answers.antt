@@ -1,5 +1,5 @@
 use Rattle.edge_moves.proofs.SlotLaws.{entries_fit, some_pointers_fit}
-use Rattle.edge_file.proofs.FileLaws.{file_byte, file_run, file_written}
+use Rattle.edge_file.proofs.FileLaws.{file_byte, file_run, file_written, file_shortened}
 use Rattle.edge_file.proofs.StepLaws.{some_bytes}
 use Rattle.edge_file.proofs.laws.files_are_held_by_their_bytes.Goals as goal
 
@@ -13,3 +13,7 @@ returns-clause-run c g v n at len text present geometry view is holds zeros low 
 pub returns-clause-written : goal.returns-clause-written
 returns-clause-written c g past v w n at new text after present flags geometry view view_w is is_w holds zeros written put blocks =
     file_written g v n text present (entries_fit g geometry) (some_pointers_fit g geometry) (some_bytes g (some_pointers_fit g geometry)) view is holds zeros past w at new view_w is_w written after flags put blocks
+
+pub returns-clause-shortened : goal.returns-clause-shortened
+returns-clause-shortened c g past v w n size text after present flags geometry view is holds zeros short put blocks =
+    file_shortened g v n text present (entries_fit g geometry) (some_pointers_fit g geometry) (some_bytes g (some_pointers_fit g geometry)) view is holds zeros past w size short after flags put blocks

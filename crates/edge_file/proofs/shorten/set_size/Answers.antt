@@ -1,0 +1,33 @@
+use Rattle.std.proofs.Common.{◌≡◌, ◌≤◌, ◌∙◌, ap, subst, arith}
+use Rattle.edge_base.specs.outside.Below.{Origin}
+use Rattle.edge_store.specs.State.{Told}
+use Rattle.edge_store.specs.View.{View}
+use Rattle.edge_file.specs.Bytes.{size_at, size_in}
+use Rattle.edge_file.specs.Writing.{SameBlocks}
+use Rattle.edge_file.proofs.AnswerLaws.{on_ok_map}
+use Rattle.edge_file.proofs.shorten.set_size.Goals as goal
+
+pub returns-then-size-head-clause-lengthened : goal.returns-then-size-head-clause-lengthened
+returns-then-size-head-clause-lengthened g c =
+    on_ok_map c.shorten.result (λ ok short told low.
+    let old = g.S.Store.state c.args.s.now in
+    let is : size_at old.working c.args.n ≡ c.in_ok-head.head.size = ap size_in (c.in_ok-head.ensures.head told) in
+    let less : size_at old.working c.args.n ≤ c.args.size = low in
+    absurd (omega (arith, is, less)))
+    c.shorten.ensures.sized
+
+pub returns-clause-lengthened : goal.returns-clause-lengthened
+returns-clause-lengthened g c =
+    on_ok_map c.reach.result (λ ok blocks told low.
+    let first = c.in_ok-head.ensures in
+    let told_mid : Told (g.S.Store.state c.sized_head.new.s) = ap (λ (o : Origin). o.tells) first.called.origin ∙ told in
+    subst (λ (v : View). SameBlocks v (g.S.Store.state c.reach.new.s).working c.args.n) first.reads.working (blocks told_mid))
+    c.reach.ensures.blocks
+
+pub returns-clause-inodes : goal.returns-clause-inodes
+returns-clause-inodes g c =
+    on_ok_map c.reach.result (λ ok blocks told x apart.
+    let first = c.in_ok-head.ensures in
+    let told_mid : Told (g.S.Store.state c.sized_head.new.s) = ap (λ (o : Origin). o.tells) first.called.origin ∙ told in
+    (blocks told_mid).others x apart ∙ ap (λ (v : View). v.inodes x) first.reads.working)
+    c.reach.ensures.blocks
