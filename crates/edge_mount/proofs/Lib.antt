@@ -1,0 +1,4 @@
+pub mod NodeLaws
+pub mod ReasonLaws
+pub mod TellsLaws
+pub mod WholeLaws
