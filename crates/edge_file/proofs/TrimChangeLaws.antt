@@ -116,6 +116,7 @@ module _ (g : Request) (c v w : View) (n i : ℕ) (touched indices : List ℕ) (
 
   pub trimmed_changed : NodeChanged g v w n indices rest
   trimmed_changed = record {
+    were = shape.places;
     places = trimmed.shape.places;
     once = trimmed.shape.once;
     inodes = trimmed.inodes;
