@@ -190,6 +190,29 @@ class Store:
                 self.drop_tree(below, UNDER[form], n)
         self.drop(b, form, n)
 
+    # -- changes that are not made
+
+    def fresh_of_bytes(self, n, at, count):
+        """The positions above and at the data blocks that the bytes lie in whose blocks are not new."""
+        found = {}
+        for i in range(at // self.size, (at + count - 1) // self.size + 1):
+            way = []
+            for (place, _), b in zip(self.way(i), self.chain(n, i)):
+                way.append(place)
+                found[tuple(way)] = b
+        return sum(not self.is_new(b) for b in found.values())
+
+    def fresh_of_size(self, n, size):
+        """Of a node that is made shorter: where its last data block has bytes behind the size, those of its chain; else those of
+        the cut."""
+        if size >= self.sizes[n]:
+            return 0
+        if size % self.size:
+            chain = list(self.chain(n, size // self.size))
+            if chain[-1]:
+                return sum(not self.is_new(b) for b in chain)
+        return self.cut_cost(n, -(-size // self.size))
+
     # -- bytes
 
     def sized(self, n):
@@ -282,6 +305,19 @@ class StoreTable:
     def do_cut(self, s, n, i):
         s.cut(self.node(s, n, int(i) <= s.most), int(i))
         return "done"
+
+    def fresh(self, s, change, n, words):
+        if change == "bytes":
+            at, count = int(words[0]), int(words[1])
+            return s.fresh_of_bytes(self.node(s, n, count and at + count <= s.most * s.size), at, count)
+        return s.fresh_of_size(self.node(s, n, int(words[0]) <= s.most * s.size), int(words[0]))
+
+    def do_fresh(self, s, change, n, *words):
+        return self.fresh(s, change, n, words)
+
+    def do_fits(self, s, change, n, *words):
+        room = len(s.free()[0]) - int(words[-1])
+        return "fits" if self.fresh(s, change, n, words) <= room else "does not fit"
 
     def do_read(self, s, n, at, count):
         data = s.read(self.node(s, n), int(at), int(count))

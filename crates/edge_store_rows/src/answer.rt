@@ -9,6 +9,7 @@ pub enum Answer {
     /// There is nothing that the statement could be asked of.
     Nothing,
     Number(u64),
+    Fits(bool),
     Chain(Chain),
     Free(Free),
 }
@@ -19,6 +20,8 @@ pub fn push_told(out: &mut String, told: Result<Answer, StoreFault>) -> Result<(
         Ok(Answer::Done) => out.push_str("done")?,
         Ok(Answer::Nothing) => out.push_str("nothing to ask")?,
         Ok(Answer::Number(number)) => write!(out, "{number}")?,
+        Ok(Answer::Fits(true)) => out.push_str("fits")?,
+        Ok(Answer::Fits(false)) => out.push_str("does not fit")?,
         Ok(Answer::Chain(chain)) => write!(out, "block {}, fresh {}", chain.block, chain.fresh)?,
         Ok(Answer::Free(free)) => write!(out, "{} now, {} after", free.now, free.after)?,
         Err(StoreFault::Damaged(damage)) => write!(out, "{:?} at {}", damage.kind, damage.block)?,

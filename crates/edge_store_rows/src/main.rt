@@ -1,11 +1,12 @@
-//! A table of cases of what stands over a store: chains, blocks made writable, cuts and bytes, over
-//! a store in memory. Each line of standard input is printed, and below it what it answers.
-//! `docs/TESTING.md` has the statements.
+//! A table of cases of what stands over a store: chains, blocks made writable, cuts, bytes and what
+//! changes take, over a store in memory. Each line of standard input is printed, and below it what
+//! it answers. `docs/TESTING.md` has the statements.
 #![tactic(auto)]
 
 mod answer;
 mod blocks;
 mod bytes;
+mod exact;
 mod hand;
 mod row;
 mod space;

@@ -1,6 +1,7 @@
 use crate::answer::push_told;
 use crate::blocks::ask_blocks;
 use crate::bytes::{ask_bytes, push_read};
+use crate::exact::ask_change;
 use crate::hand::ask_by_hand;
 use crate::space::ask_space;
 use anyhow::{Context, Result, bail};
@@ -53,6 +54,7 @@ fn push_answer<S: Store>(alloc: Global, out: &mut String, s: &mut S, words: &[&s
         "read" => return push_read(alloc, out, s, words),
         "file" | "size" | "free" | "point" => ask_space(s, words)?,
         "take" | "entry" | "pointer" | "drop" => ask_by_hand(s, words)?,
+        "fresh" | "fits" => ask_change(s, words)?,
         "write" | "fill" | "grow" => ask_bytes(alloc, s, words)?,
         _ => ask_blocks(s, words)?,
     };
