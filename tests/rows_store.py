@@ -238,6 +238,16 @@ class Store:
             content[done % self.size] = byte
         self.sizes[n] = max(size, at + len(data))
 
+    def resize(self, n, size):
+        if size < self.sized(n):
+            index, kept = divmod(size, self.size)
+            *_, b = self.chain(n, index) if kept else [0]
+            if b:
+                content = self.blocks[self.writable(n, index)].content
+                content[kept:] = bytes(self.size - kept)
+            self.cut(n, index + (kept > 0))
+        self.sizes[n] = size
+
 
 class StoreTable:
     """Answers the statements of the table. The store stays from one line to the next."""
@@ -337,6 +347,10 @@ class StoreTable:
     def do_grow(self, s, n, size):
         n = self.node(s, n, int(size) <= s.most * s.size)
         s.sizes[n] = max(s.sized(n), int(size))
+        return "done"
+
+    def do_resize(self, s, n, size):
+        s.resize(self.node(s, n, int(size) <= s.most * s.size), int(size))
         return "done"
 
     def do_take(self, s, form, n):

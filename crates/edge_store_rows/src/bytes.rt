@@ -4,7 +4,7 @@ ghost use Rattle.edge_store.specs.State.{IsLive};
 use crate::answer::{Answer, push_told};
 use crate::there::is_there;
 use anyhow::{Result as Told, bail, ensure};
-use edge_file::{fill_at, grow, read_at, write_at};
+use edge_file::{fill_at, grow, read_at, set_size, write_at};
 use edge_statement::{byte, number32, word};
 use edge_store::{Store, StoreFault};
 use std::alloc::Global;
@@ -26,6 +26,7 @@ pub fn ask_bytes<S: Store>(
         "write" => write(s, n, at, &hex::decode(alloc, word(words, 3)?)?),
         "fill" => fill(s, n, at, number32(words, 3)?, byte(alloc, word(words, 4)?)?),
         "grow" => grow_to(s, n, at),
+        "resize" => resize(s, n, at),
         verb => bail!("no statement: {verb}"),
     })
 }
@@ -90,5 +91,15 @@ fn grow_to<S: Store>(s: &mut S, n: u32, size: u64) -> Result<Answer, StoreFault>
         return Ok(Answer::Nothing);
     }
     grow(s, n, size)?;
+    Ok(Answer::Done)
+}
+
+fn resize<S: Store>(s: &mut S, n: u32, size: u64) -> Result<Answer, StoreFault>
+    requires { IsLive (S.state s.old) }
+{
+    if size > s.geometry().max_size() || !is_there(s, n)? {
+        return Ok(Answer::Nothing);
+    }
+    set_size(s, n, size)?;
     Ok(Answer::Done)
 }

@@ -55,7 +55,7 @@ fn push_answer<S: Store>(alloc: Global, out: &mut String, s: &mut S, words: &[&s
         "file" | "size" | "free" | "point" => ask_space(s, words)?,
         "take" | "entry" | "pointer" | "drop" => ask_by_hand(s, words)?,
         "fresh" | "fits" => ask_change(s, words)?,
-        "write" | "fill" | "grow" => ask_bytes(alloc, s, words)?,
+        "write" | "fill" | "grow" | "resize" => ask_bytes(alloc, s, words)?,
         _ => ask_blocks(s, words)?,
     };
     push_told(out, told)?;
