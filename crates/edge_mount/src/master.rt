@@ -13,8 +13,8 @@ use edge_cache::Cache;
 use edge_disk::Disk;
 use edge_nodes::decode_master;
 
-/// Reads the master of a disk of so many blocks of this size, and answers the first of the reasons 1 to 3 that
-/// holds. `block` is room for a block.
+/// Reads the master of a disk of so many blocks of this size, and answers the first of the reasons
+/// 1 to 3 that holds. `block` is room for a block.
 pub(crate) fn read_master<D: Disk>(
     cache: &mut Cache<D>,
     blocks: u32,

@@ -1,2 +1,5 @@
+pub mod MountedLaws
 pub mod PhaseLaws
+pub mod SparedLaws
+pub mod StandsLaws
 pub mod TieLaws

@@ -1,1 +1,6 @@
+pub mod Mounted
 pub mod Phases
+pub mod Seen
+pub mod Spared
+pub mod Standing
+pub mod StandingLaws

@@ -2,11 +2,19 @@
 //! a point of a cache with its bitmap.
 #![tactic(auto)]
 
+mod begin;
 mod laws;
+mod parts;
 mod phase;
+mod point;
 
-pub use laws::a_tied_bitmap_may_follow;
+pub use laws::{
+    a_tied_bitmap_may_follow, the_last_point_stays, the_next_point_is_on_the_disk,
+    what_spares_the_last_point, writes_follow,
+};
+pub use parts::Parts;
 pub use phase::{commit, take_point};
+pub use point::Point;
 
 #[cfg(test)]
 mod tests;

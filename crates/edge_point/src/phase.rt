@@ -9,6 +9,7 @@ ghost use Rattle.edge_disk.specs.State.{EachCut, IsTold, disk_of};
 ghost use Rattle.edge_anchor.specs.Anchor.{Anchor, geometry_of, spare_of};
 ghost use Rattle.edge_anchor.specs.Medium.{Follows, IsCommitted, medium_of, none_given, one_given, shown_alone};
 ghost use Rattle.edge_imap.specs.Bitmaps.{IsFit};
+ghost use Rattle.edge_point.specs.Spared.{block_given};
 ghost use Rattle.edge_point.specs.Phases.{MayCommit, MayFollow, OpensAsEither, Settles, next_of};
 
 use edge_base::{Geometry, Metaroot};
@@ -76,6 +77,8 @@ pub fn take_point<D: Disk>(
     ensures origin { D.origin cache.new.disk ≡ D.origin cache.old.disk }
     ensures cause { HasCause (D.faults cache.old.disk) (D.faults cache.new.disk) result }
     ensures contents { KeepsOthers D.Disk place cache.old cache.new }
+    ensures follows { IsTrue (D.origin cache.old.disk).shows → Follows (block_given place)
+        (medium_of D.Disk cache.old) (medium_of D.Disk cache.new) }
     ensures clean { OnOk result (IsClean cache.new.held) }
 
     // What a cut leaves, whatever is answered, and what stands after Ok.
@@ -122,6 +125,8 @@ pub fn commit<D: Disk>(
     ensures origin { D.origin cache.new.disk ≡ D.origin cache.old.disk }
     ensures cause { HasCause (D.faults cache.old.disk) (D.faults cache.new.disk) result }
     ensures contents { KeepsOthers D.Disk place cache.old cache.new }
+    ensures follows { IsTrue (D.origin cache.old.disk).shows → Follows (block_given place)
+        (medium_of D.Disk cache.old) (medium_of D.Disk cache.new) }
     ensures clean { OnOk result (IsClean cache.new.held) }
     ensures settles { OnOk result (Settles imap.old imap.new) }
     ensures unsettled { OnErr result (imap.new ≡ imap.old) }

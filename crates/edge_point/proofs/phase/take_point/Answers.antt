@@ -5,9 +5,11 @@ use Rattle.edge_cache.specs.Given.{or_shown}
 use Rattle.edge_disk.specs.Disk.{Origin}
 use Rattle.edge_anchor.specs.Anchor.{IsOn, IsRoot}
 use Rattle.edge_anchor.specs.Medium.{medium_of, none_given, one_given, shown_alone}
-use Rattle.edge_anchor.proofs.KeepLaws.{committed_none, shown_follows}
+use Rattle.edge_anchor.proofs.KeepLaws.{committed_none, follows_more, shown_follows}
 use Rattle.edge_point.specs.Phases.{next_of}
+use Rattle.edge_point.specs.Spared.{block_given}
 use Rattle.edge_point.proofs.PhaseLaws.{IdleShow, spells_next, left_before, left_inside, begun, turned, taken}
+use Rattle.edge_point.proofs.SparedLaws.{follows_then}
 use Rattle.edge_point.proofs.phase.take_point.Goals as goal
 
 pub returns-in_err-make_sure-clause-cut : goal.returns-in_err-make_sure-clause-cut
@@ -123,3 +125,29 @@ returns-clause-shown g c = λ a geometry spare may shows is.
     (shown_follows (one_given c.args.place bytes) (medium_of d mid) (medium_of d new) (c.turn.ensures.follows shows_mid)) first in
     taken a b c.args.place bytes alone_new (λ k x is same. same) on_new spare root (c.in_ok-turn.ensures.written shows_mid) c.in_ok-turn.ensures.clean
     (λ k below. tt) second
+
+pub returns-in_err-make_sure-clause-follows : goal.returns-in_err-make_sure-clause-follows
+returns-in_err-make_sure-clause-follows g c = λ shows. follows_more none_given (block_given c.args.place) (medium_of g.D.Disk c.args.cache.now)
+    (medium_of g.D.Disk c.make_sure.new.cache) (λ k bytes given. absurd given) c.make_sure.ensures.follows
+
+pub returns-in_err-turn-clause-follows : goal.returns-in_err-turn-clause-follows
+returns-in_err-turn-clause-follows g c = λ shows.
+    let place = c.args.place in
+    let old = medium_of g.D.Disk c.args.cache.now in
+    let mid = medium_of g.D.Disk c.make_sure.new.cache in
+    let new = medium_of g.D.Disk c.turn.new.cache in
+    let shows_mid = subst (λ (x : Origin). IsTrue x.shows) (sym c.make_sure.ensures.origin) shows in
+    follows_then (block_given place) old mid new
+    (follows_more none_given (block_given place) old mid (λ k bytes given. absurd given) c.make_sure.ensures.follows)
+    (follows_more (one_given place c.encode_metaroot.new.out) (block_given place) mid new (λ k bytes given. given.0) (c.turn.ensures.follows shows_mid))
+
+pub returns-clause-follows : goal.returns-clause-follows
+returns-clause-follows g c = λ shows.
+    let place = c.args.place in
+    let old = medium_of g.D.Disk c.args.cache.now in
+    let mid = medium_of g.D.Disk c.make_sure.new.cache in
+    let new = medium_of g.D.Disk c.turn.new.cache in
+    let shows_mid = subst (λ (x : Origin). IsTrue x.shows) (sym c.make_sure.ensures.origin) shows in
+    follows_then (block_given place) old mid new
+    (follows_more none_given (block_given place) old mid (λ k bytes given. absurd given) c.make_sure.ensures.follows)
+    (follows_more (one_given place c.encode_metaroot.new.out) (block_given place) mid new (λ k bytes given. given.0) (c.turn.ensures.follows shows_mid))
