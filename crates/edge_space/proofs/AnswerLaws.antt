@@ -1,5 +1,6 @@
 -- What the calls below answer, for a change.
 use Rattle.std.proofs.Common.{◌≡◌, ℕ, ◌+◌, ◌-◌, ◌/◌, ◌<◌, ◌≤◌, true, false, Bool, cond, Some, None, List, refl, sym, ap, ◌∙◌}
+use Rattle.edge_file.specs.Shortened.{has_rest, shortening_need}
 use Rattle.std.specs.Prelude.{Result, Ok, Err, IfOk}
 use Rattle.std.proofs.lemmas.Bool.{cond-true, cond-false}
 use Rattle.edge_base.specs.layout.Places.{IsGeometry, max_blocks_of, max_size_of}
@@ -10,8 +11,8 @@ use Rattle.edge_moves.proofs.SlotLaws.{some_pointers_fit}
 use Rattle.edge_shape.specs.Where.{cut_need}
 use Rattle.edge_cut.specs.Through.{IsCutNeed}
 use Rattle.edge_file.proofs.StepLaws.{some_bytes}
-use Rattle.edge_space.specs.Answers.{IsNeedOf, IsFreshInside, IsBehindNeed, IsFreshOf, count_of_change}
-use Rattle.edge_space.specs.Changes.{is_longer, is_inside, behind_need, need_of_change, IsWithin, AreShaped}
+use Rattle.edge_space.specs.Answers.{IsNeedOf, IsFreshInside, IsShorteningNeed, IsFreshOf, count_of_change}
+use Rattle.edge_space.specs.Changes.{is_longer, need_of_change, IsWithin, AreShaped}
 use Rattle.edge_space.specs.Counts.{IsFreshRun}
 use Rattle.edge_space.specs.declared.change.Change.{Change}
 use Rattle.edge_space.specs.declared.change.Change.TheVariants.{Bytes, Size}
@@ -47,8 +48,8 @@ bytes_answer s n at len first count (Err fault) geometry some end is_first is_en
 -- ---- a size
 
 module _ (s : StoreState) (n size : ℕ) where
-  pub behind_inside : (fresh : ℕ) → IsFreshInside s n size (Some fresh) → IsBehindNeed s n size fresh
-  behind_inside fresh found = λ told. found_some (is_inside s.origin.request s.working n size) fresh _ _ (found told)
+  pub behind_inside : (fresh : ℕ) → IsFreshInside s n size (Some fresh) → IsShorteningNeed s n size fresh
+  behind_inside fresh found = λ told. found_some (has_rest s.origin.request s.working n size) fresh _ _ (found told)
     where
       found_some : (t : Bool) (x k y : ℕ) → Some x ≡ cond t (Some k) None → x ≡ cond t k y
       found_some true x k y e = let h : Some x ≡ Some k = e in cc
@@ -56,10 +57,10 @@ module _ (s : StoreState) (n size : ℕ) where
 
   -- the cut is counted in a store that has the same views
   pub behind_whole : {E : Type 0} (mid : StoreState) (blocks : ℕ) (result : Result ℕ E) → mid.origin ≡ s.origin → mid.committed ≡ s.committed → mid.working ≡ s.working
-      → blocks ≡ pieces s.origin.request.block_size size → IsFreshInside s n size None → IfOk result (IsCutNeed mid n blocks) → IfOk result (IsBehindNeed s n size)
+      → blocks ≡ pieces s.origin.request.block_size size → IsFreshInside s n size None → IfOk result (IsCutNeed mid n blocks) → IfOk result (IsShorteningNeed s n size)
   behind_whole mid blocks (Ok fresh) origin committed working is found need = λ told.
       let told_mid : Told mid = ap (λ (o : Origin). o.tells) origin ∙ told in
-      need told_mid ∙ (λ i. cut_need (origin i).request (committed i) (working i) n (is i)) ∙ found_none (is_inside s.origin.request s.working n size) _ _ (found told)
+      need told_mid ∙ (λ i. cut_need (origin i).request (committed i) (working i) n (is i)) ∙ found_none (has_rest s.origin.request s.working n size) _ _ (found told)
     where
       found_none : (t : Bool) (k y : ℕ) → None ≡ cond t (Some k) None → y ≡ cond t k y
       found_none true k y e = absurd (let h : None ≡ Some k = e in cc)
@@ -67,10 +68,10 @@ module _ (s : StoreState) (n size : ℕ) where
   behind_whole mid blocks (Err fault) origin committed working is found need = need
 
   pub size_shorter : {E : Type 0} (mid : StoreState) (result : Result ℕ E) → mid.origin ≡ s.origin → mid.committed ≡ s.committed → mid.working ≡ s.working
-      → (Told s → is_longer s.working n size ≡ true) → IfOk result (IsBehindNeed mid n size) → IfOk result (IsNeedOf s (Size n size))
+      → (Told s → is_longer s.working n size ≡ true) → IfOk result (IsShorteningNeed mid n size) → IfOk result (IsNeedOf s (Size n size))
   size_shorter mid (Ok fresh) origin committed working past need = λ told.
       let told_mid : Told mid = ap (λ (o : Origin). o.tells) origin ∙ told in
-      need told_mid ∙ (λ i. behind_need (origin i).request (committed i) (working i) n size) ∙ sym (cond-true (is_longer s.working n size) _ 0 (past told))
+      need told_mid ∙ (λ i. shortening_need (origin i).request (committed i) (working i) n size) ∙ sym (cond-true (is_longer s.working n size) _ 0 (past told))
   size_shorter mid (Err fault) origin committed working past need = need
 
   pub size_longer : (Told s → is_longer s.working n size ≡ false) → IsNeedOf s (Size n size) 0

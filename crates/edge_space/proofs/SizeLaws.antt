@@ -1,5 +1,6 @@
 -- What a new size of a node counts: the chain of the data block that it is within, or what the cut behind it needs.
 use Rattle.std.proofs.Common.{◌≡◌, ◌≢◌, ℕ, ◌+◌, ◌-◌, ◌*◌, ◌/◌, ◌%◌, ◌==◌, ◌&&◌, ◌<◌, ◌≤◌, not, Bool, true, false, cond, List, [], ◌∷◌, refl, sym, ap, ◌∙◌, arith}
+use Rattle.edge_file.specs.Shortened.{has_rest}
 use Rattle.std.proofs.lemmas.Bool.Decides.{nat_tests}
 use Rattle.std.proofs.lemmas.Nat.{div-mul-add, div-add-mod', mod_below}
 use Rattle.std.proofs.Math.Nat.{div-lt_iff_lt-mul}
@@ -17,7 +18,7 @@ use Rattle.edge_count.specs.Cuts.{removed}
 use Rattle.edge_count.proofs.ChainLaws.{chain_count}
 use Rattle.edge_count.proofs.NeedLaws.{fresh_cut}
 use Rattle.edge_count.proofs.SizeLaws.{fresh_size-chain}
-use Rattle.edge_space.specs.Changes.{is_longer, is_inside, need_of_change, writes_of, removes_of}
+use Rattle.edge_space.specs.Changes.{is_longer, need_of_change, writes_of, removes_of}
 use Rattle.edge_space.specs.declared.change.Change.TheVariants.{Size}
 
 -- ---- numbers of blocks
@@ -39,7 +40,7 @@ few_pieces b size m some low =
 
 -- ---- a size that is within a block
 
-pub inside_uneven : (g : Request) (v : View) (n size : ℕ) → is_inside g v n size ≡ true → size % g.block_size ≢ 0
+pub inside_uneven : (g : Request) (v : View) (n size : ℕ) → has_rest g v n size ≡ true → size % g.block_size ≢ 0
 inside_uneven g v n size h = uneven_of (size % g.block_size) (not (data_block g v n (size / g.block_size) == 0)) h
   where
     uneven_of : (m : ℕ) (y : Bool) → (not (m == 0) && y) ≡ true → m ≢ 0
@@ -61,7 +62,7 @@ by_tests g c v false i d gone x y inside whole = fresh_none g c v
 -- a size that is not less counts nothing
 pub counted_longer : (g : Request) (c v : View) (n size : ℕ) (indices : ℕ → List ℕ) → is_longer v n size ≡ false
     → fresh_count g c v (writes_of g v (Size n size)) (removes_of g v (Size n size) indices) ≡ 0
-counted_longer g c v n size indices e = by (is_longer v n size) (is_inside g v n size) (data_at n (size / g.block_size)) (removed n (pieces g.block_size size) (indices n)) e
+counted_longer g c v n size indices e = by (is_longer v n size) (has_rest g v n size) (data_at n (size / g.block_size)) (removed n (pieces g.block_size size) (indices n)) e
   where
     by : (l i : Bool) (d : Position) (gone : List Position) → l ≡ false → fresh_count g c v (cond (l && i) (d ∷ []) []) (cond l gone []) ≡ 0
     by true i d gone e = absurd (cc)
@@ -72,7 +73,7 @@ module _ (g : Request) (c v : View) (n size : ℕ) (indices : ℕ → List ℕ) 
   blocks = pieces g.block_size size
 
   -- a block is cut in two
-  inside : is_inside g v n size ≡ true → fresh_count g c v (data_at n (size / g.block_size) ∷ []) (removed n blocks (indices n)) ≡ fresh_on_chain g c v n (size / g.block_size)
+  inside : has_rest g v n size ≡ true → fresh_count g c v (data_at n (size / g.block_size) ∷ []) (removed n blocks (indices n)) ≡ fresh_on_chain g c v n (size / g.block_size)
   inside cut =
       let more : blocks ≡ size / g.block_size + 1 = uneven_pieces g.block_size size some (inside_uneven g v n size cut) in
       let last : blocks - 1 ≡ size / g.block_size = omega arith in
@@ -82,5 +83,5 @@ module _ (g : Request) (c v : View) (n size : ℕ) (indices : ℕ → List ℕ) 
       ∙ sym (chain_count g c v n (blocks - 1)) ∙ ap (fresh_on_chain g c v n) last
 
   pub counted_size : fresh_count g c v (writes_of g v (Size n size)) (removes_of g v (Size n size) indices) ≡ need_of_change g c v (Size n size)
-  counted_size = by_tests g c v (is_longer v n size) (is_inside g v n size) (data_at n (size / g.block_size)) (removed n blocks (indices n))
+  counted_size = by_tests g c v (is_longer v n size) (has_rest g v n size) (data_at n (size / g.block_size)) (removed n blocks (indices n))
       (fresh_on_chain g c v n (size / g.block_size)) (cut_need g c v n blocks) inside (λ whole. fresh_cut g c v n blocks (indices n) shape)

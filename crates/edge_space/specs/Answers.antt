@@ -1,5 +1,6 @@
 -- What is asked of a change, and what is answered, where the views are told. s is a store as a call begins.
 use Rattle.std.specs.Prelude.{◌≡◌, ◌+◌, ◌/◌, ℕ, Bool, nat_le, if◌then◌else◌, List, Option, Some, None, Result}
+use Rattle.edge_file.specs.Shortened.{has_rest, shortening_need}
 use Rattle.edge_store.specs.declared.fault.StoreFault.{StoreFault}
 use Rattle.edge_store.specs.Fresh.{fresh_count}
 use Rattle.edge_store.specs.State.{StoreState, Told, IsNumber, HasInode}
@@ -8,7 +9,7 @@ use Rattle.edge_moves.specs.Writable.{fresh_on_chain}
 use Rattle.edge_tree.specs.Answers.{NeverOnShaped}
 use Rattle.edge_space.specs.declared.change.Change.{Change}
 use Rattle.edge_space.specs.declared.change.Change.TheVariants.{Bytes, Size}
-use Rattle.edge_space.specs.Changes.{is_longer, is_inside, behind_need, need_of_change, writes_of, removes_of, AreShaped}
+use Rattle.edge_space.specs.Changes.{is_longer, need_of_change, writes_of, removes_of, AreShaped}
 
 -- the nodes that a change names have inodes
 abbrev pub AreThere : StoreState → Change → Type 0
@@ -26,12 +27,12 @@ IsLonger s n size longer = Told s → longer ≡ is_longer s.working n size
 
 -- of the data block that a size is within, if there is one, the positions of its chain that are not dirty
 abbrev pub IsFreshInside : StoreState → ℕ → ℕ → Option ℕ → Type 0
-IsFreshInside s n size found = Told s → found ≡ (if is_inside s.origin.request s.working n size
+IsFreshInside s n size found = Told s → found ≡ (if has_rest s.origin.request s.working n size
     then Some (fresh_on_chain s.origin.request s.committed s.working n (size / s.origin.request.block_size)) else None)
 
 -- how many free blocks it takes to cut node n behind so many bytes
-abbrev pub IsBehindNeed : StoreState → ℕ → ℕ → ℕ → Type 0
-IsBehindNeed s n size need = Told s → need ≡ behind_need s.origin.request s.committed s.working n size
+abbrev pub IsShorteningNeed : StoreState → ℕ → ℕ → ℕ → Type 0
+IsShorteningNeed s n size need = Told s → need ≡ shortening_need s.origin.request s.committed s.working n size
 
 -- how many a change takes
 abbrev pub IsNeedOf : StoreState → Change → ℕ → Type 0

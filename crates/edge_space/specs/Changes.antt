@@ -1,17 +1,15 @@
 -- What a change touches in a view: the data positions that it writes or adds, and those that it removes.
-use Rattle.std.specs.Prelude.{◌==◌, ◌&&◌, ◌/◌, ◌%◌, ◌+◌, ◌<◌, ◌≤◌, ℕ, not, Bool, nat_lt, if◌then◌else◌, List, [], ◌∷◌, map}
+use Rattle.std.specs.Prelude.{◌&&◌, ◌/◌, ◌+◌, ◌<◌, ◌≤◌, ℕ, Bool, nat_lt, if◌then◌else◌, List, [], ◌∷◌, map}
 use Rattle.edge_base.specs.declared.geometry.Request.{Request}
 use Rattle.edge_base.specs.layout.Places.{max_size_of}
 use Rattle.edge_base.specs.tree.Positions.{Position, data_at}
 use Rattle.edge_base.specs.tree.Slots.{pieces}
-use Rattle.edge_store.specs.Placed.{data_block}
 use Rattle.edge_store.specs.View.{View}
-use Rattle.edge_moves.specs.Writable.{fresh_on_chain}
 use Rattle.edge_shape.specs.Shape.{HasShape}
-use Rattle.edge_shape.specs.Where.{cut_need}
 use Rattle.edge_count.specs.Cuts.{removed}
 use Rattle.edge_file.specs.Bytes.{blocks_under, size_at}
 use Rattle.edge_file.specs.Rewritten.{fresh_on}
+use Rattle.edge_file.specs.Shortened.{has_rest, shortening_need}
 use Rattle.edge_space.specs.declared.change.Change.{Change}
 use Rattle.edge_space.specs.declared.change.Change.TheVariants.{Bytes, Size}
 
@@ -26,16 +24,12 @@ IsWithin g (Size n size) = size ≤ max_size_of g
 abbrev pub is_longer : View → ℕ → ℕ → Bool
 is_longer v n size = nat_lt size (size_at v n)
 
--- whether a size is within a data block of node n, so that one that makes it shorter cuts the block in two
-abbrev pub is_inside : Request → View → ℕ → ℕ → Bool
-is_inside g v n size = not (size % g.block_size == 0) && not (data_block g v n (size / g.block_size) == 0)
-
 -- ---- positions
 
 -- the data positions that a change writes or adds
 abbrev pub writes_of : Request → View → Change → List Position
 writes_of g v (Bytes n at len) = map (data_at n) (blocks_under g at len)
-writes_of g v (Size n size) = if is_longer v n size && is_inside g v n size then data_at n (size / g.block_size) ∷ [] else []
+writes_of g v (Size n size) = if is_longer v n size && has_rest g v n size then data_at n (size / g.block_size) ∷ [] else []
 
 -- The nodes that a change may remove data blocks of have the shape of nodes; the function tells the data blocks of each.
 abbrev pub AreShaped : Request → View → Change → (ℕ → List ℕ) → Type 0
@@ -49,13 +43,7 @@ removes_of g v (Size n size) indices = if is_longer v n size then removed n (pie
 
 -- ---- free blocks
 
--- How many free blocks it takes to cut node n behind so many bytes: where the last block is cut in two, those of its chain, and the cut
--- adds nothing; else those of the cut.
-abbrev pub behind_need : Request → View → View → ℕ → ℕ → ℕ
-behind_need g c v n size =
-    if is_inside g v n size then fresh_on_chain g c v n (size / g.block_size) else cut_need g c v n (pieces g.block_size size)
-
 -- how many a change takes, on every view
 abbrev pub need_of_change : Request → View → View → Change → ℕ
 need_of_change g c v (Bytes n at len) = fresh_on g c v n (blocks_under g at len)
-need_of_change g c v (Size n size) = if is_longer v n size then behind_need g c v n size else 0
+need_of_change g c v (Size n size) = if is_longer v n size then shortening_need g c v n size else 0

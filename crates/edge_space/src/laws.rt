@@ -10,7 +10,8 @@ ghost use Rattle.edge_store.specs.View.{View};
 ghost use Rattle.edge_shape.specs.Shape.{HasShape};
 ghost use Rattle.edge_file.specs.Bytes.{blocks_under};
 ghost use Rattle.edge_file.specs.Rewritten.{fresh_on};
-ghost use Rattle.edge_space.specs.Changes.{IsWithin, is_longer, behind_need, writes_of, removes_of};
+ghost use Rattle.edge_file.specs.Shortened.{shortening_need};
+ghost use Rattle.edge_space.specs.Changes.{IsWithin, is_longer, writes_of, removes_of};
 ghost use Rattle.edge_space.specs.declared.change.Change.TheVariants.{Bytes, Size};
 
 /// The fresh positions of bytes are as many as writing them takes of the free blocks. The data
@@ -34,7 +35,7 @@ pub fn sizes_ask_for_their_fresh_positions()
     ensures shorter { (g : Request) (c v : View) (n size : ℕ) (indices : ℕ → List ℕ)
         → HasShape g v n (indices n) → size ≤ max_size_of g → is_longer v n size ≡ true
         → fresh_count g c v (writes_of g v (Size n size)) (removes_of g v (Size n size) indices)
-        ≡ behind_need g c v n size }
+        ≡ shortening_need g c v n size }
     ensures longer { (g : Request) (c v : View) (n size : ℕ) (indices : ℕ → List ℕ)
         → is_longer v n size ≡ false
         → fresh_count g c v (writes_of g v (Size n size)) (removes_of g v (Size n size) indices)

@@ -5,7 +5,7 @@ ghost use Rattle.edge_base.specs.tree.Slots.{pieces};
 ghost use Rattle.edge_store.specs.Calls.{Called, KeepsPoint, Reads};
 ghost use Rattle.edge_store.specs.State.{IsLive, IsNumber, HasInode};
 ghost use Rattle.edge_tree.specs.Answers.{TellsWhatIs, NeverTangled, NeverOnShaped};
-ghost use Rattle.edge_space.specs.Answers.{IsLonger, IsFreshInside, IsBehindNeed, IsNeedOf};
+ghost use Rattle.edge_space.specs.Answers.{IsLonger, IsFreshInside, IsShorteningNeed, IsNeedOf};
 ghost use Rattle.edge_space.specs.declared.change.Change.TheVariants.{Size};
 
 use edge_base::Geometry;
@@ -111,7 +111,7 @@ fn fresh_behind<S: Store>(s: &mut S, n: u32, size: u64) -> Result<u32, StoreFaul
     ensures damage { TellsWhatIs (S.state s.old) (S.state s.new) result }
     ensures untangled { NeverTangled (S.state s.old) result }
     ensures undamaged { NeverOnShaped (S.state s.old) n result }
-    ensures need { IfOk result (IsBehindNeed (S.state s.old) n size) }
+    ensures need { IfOk result (IsShorteningNeed (S.state s.old) n size) }
 {
     let blocks = blocks_of(s.geometry(), size);
     match fresh_inside(s, n, size)? {
