@@ -1,12 +1,10 @@
-ghost use Rattle.std.specs.Prelude.{◌≡◌, IfOk};
+ghost use Rattle.std.specs.Prelude.{◌≡◌, ◌<◌, ◌≤◌, length, IfOk};
 
-use crate::{
-    Search, last_filled, read_slot, seek, slot_at, slot_width, slots_in_block, spell_slot,
-};
+use crate::{Search, WrongSlot, last_filled, read_slot, seek, slot_at, spell_slot};
 use edge_base::{BadGeometry, Geometry, Request};
 
-// A geometry with names of at most 12 bytes: 32 slots of 16 bytes in a block.
-fn small() -> Result<Geometry, BadGeometry>
+// Names of at most 12 bytes: 32 slots of 16 bytes in a block.
+fn geometry() -> Result<Geometry, BadGeometry>
     ensures block { IfOk result (λ g. g.block_size ≡ 512) }
     ensures name { IfOk result (λ g. g.name_max ≡ 12) }
 {
@@ -20,50 +18,68 @@ fn small() -> Result<Geometry, BadGeometry>
     })
 }
 
+// Fills a slot of a block.
+fn fill(block: &mut [u8], slot: usize, name: &[u8], number: u32)
+    requires whole { length block.old ≡ 512 }
+    requires slot { slot < 32 }
+    requires name { length name.now ≤ 12 }
+    ensures { length block.new ≡ 512 }
+{
+    spell_slot(name, number, &mut block[16 * slot..16 * slot + 16]);
+}
+
 // Slots 1 and 3 are filled, with the shortest and the longest name.
+fn finds(g: &Geometry, block: &mut [u8], name: &[u8]) -> Result<Search, WrongSlot>
+    requires size { g.now.block_size ≡ 512 }
+    requires whole { length block.old ≡ 512 }
+    ensures { length block.new ≡ 512 }
+{
+    fill(block, 1, b"a", 3);
+    fill(block, 3, b"abcdefghijkl", 9);
+    seek(g, block, name)
+}
+
+// Whether a slot with this name and number, and this byte at its end, is wrong.
+fn is_wrong(g: &Geometry, name: &[u8], number: u32, end: u8) -> bool
+    requires names { g.now.name_max ≡ 12 }
+    requires name { length name.now ≤ 12 }
+{
+    let mut bytes = [0u8; 16];
+    spell_slot(name, number, &mut bytes);
+    if end != 0 {
+        bytes[15] = end;
+    }
+    read_slot(g, &bytes).is_err()
+}
+
 #[test]
 fn finds_what_was_spelled(rt: HostRuntime) {
     let mut block = [0u8; 512];
-    spell_slot(b"a", 3, &mut block[16..32]);
-    spell_slot(b"abcdefghijkl", 9, &mut block[48..64]);
-    let one = Search::Found { slot: 1, number: 3 };
-    let two = Search::Found { slot: 3, number: 9 };
-    let none = Search::Missing { free: Some(0) };
-    match small() {
-        Ok(g) => {
-            assert!(rt; seek(&g, &block, b"a").is_ok_and(|found| found == one));
-            assert!(rt; seek(&g, &block, b"abcdefghijkl").is_ok_and(|found| found == two));
-            assert!(rt; seek(&g, &block, b"ab").is_ok_and(|found| found == none));
-            assert!(rt; last_filled(&g, &block, 32).is_ok_and(|last| last == Some(3)));
-            assert!(rt; slot_at(&g, &block, 3).is_ok_and(|slot| slot.is_some()));
-            assert!(rt; slot_width(&g) == 16 && slots_in_block(&g) == 32);
+    let names: [(&str, Search); 3] = [
+        ("a", Search::Found { slot: 1, number: 3 }),
+        ("abcdefghijkl", Search::Found { slot: 3, number: 9 }),
+        ("ab", Search::Missing { free: Some(0) }),
+    ];
+    if let Ok(g) = geometry() {
+        for (name, answer) in names {
+            assert!(rt;
+                finds(&g, &mut block, name.as_bytes()).is_ok_and(|found| found == answer),
+                "{name}"
+            );
         }
-        Err(_) => assert!(rt; false),
+        assert!(rt; last_filled(&g, &block, 3).is_ok_and(|last| last == Some(1)));
+        assert!(rt; slot_at(&g, &block, 3).is_ok_and(|slot| slot.is_some()));
     }
 }
 
-// No number, numbers that no name has, and names that no entry may have; a byte behind a name.
+// No number, numbers that no name has, names that no entry may have, and a byte behind a name.
 #[test]
 fn refuses_what_no_slot_may_say(rt: HostRuntime) {
-    let wrong: [(&str, u32); 6] = [
-        ("a", 0),
-        ("a", 2),
-        ("a", 10),
-        ("", 3),
-        ("..", 3),
-        ("a/b", 3),
-    ];
-    let mut bytes = [0u8; 16];
-    match small() {
-        Ok(g) => {
-            for (name, number) in wrong {
-                spell_slot(name.as_bytes(), number, &mut bytes);
-                assert!(rt; read_slot(&g, &bytes).is_err(), "{name} {number}");
-            }
-            spell_slot(b"a", 3, &mut bytes);
-            bytes[15] = 1;
-            assert!(rt; read_slot(&g, &bytes).is_err());
-        }
-        Err(_) => assert!(rt; false),
+    if let Ok(g) = geometry() {
+        assert!(rt; !is_wrong(&g, b"a", 3, 0) && !is_wrong(&g, b"abcdefghijkl", 9, b'z'));
+        assert!(rt; is_wrong(&g, b"a", 0, 0) && is_wrong(&g, b"a", 2, 0));
+        assert!(rt; is_wrong(&g, b"a", 10, 0) && is_wrong(&g, b"", 3, 0));
+        assert!(rt; is_wrong(&g, b"..", 3, 0) && is_wrong(&g, b"a/b", 3, 0));
+        assert!(rt; is_wrong(&g, b"a", 3, 1) && is_wrong(&g, b"", 0, 1));
     }
 }
