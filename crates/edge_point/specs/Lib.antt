@@ -4,3 +4,4 @@ pub mod Seen
 pub mod Spared
 pub mod Standing
 pub mod StandingLaws
+pub mod Steps

@@ -7,6 +7,7 @@ mod laws;
 mod parts;
 mod phase;
 mod point;
+mod transact;
 
 pub use laws::{
     a_tied_bitmap_may_follow, the_last_point_stays, the_next_point_is_on_the_disk,
