@@ -1,4 +1,4 @@
-ghost use Rattle.std.specs.Prelude.{◌≡◌, length, IfOk};
+ghost use Rattle.std.specs.Prelude.{◌≡◌, ◌≤◌, IfOk};
 
 use crate::{MountFault, Mounted, mount};
 use edge_base::{BadGeometry, Geometry, Master, Metaroot, Request};
@@ -22,35 +22,6 @@ fn geometry() -> Result<Geometry, BadGeometry>
     })
 }
 
-// Spells a master.
-fn put_master(g: Geometry, block: &mut [u8])
-    requires size { g.block_size ≡ 512 }
-    requires block { length block.old ≡ 512 }
-    ensures { length block.new ≡ 512 }
-{
-    let master = Master {
-        geometry: g,
-        time: 5,
-    };
-    encode_master(&master, block);
-}
-
-// Spells a metaroot in which nothing is used.
-fn put_metaroot(g: &Geometry, block: &mut [u8])
-    requires size { g.now.block_size ≡ 512 }
-    requires blocks { g.now.blocks ≡ 64 }
-    requires block { length block.old ≡ 512 }
-    ensures { length block.new ≡ 512 }
-{
-    let root = Metaroot {
-        sequence: 2,
-        free_blocks: 45,
-        free_inodes: 8,
-        next: 19,
-    };
-    encode_metaroot(g, &root, &[0u8; 480], block);
-}
-
 // How a mount ends of a volume in which nothing is used, and the calls of its disk, of which those
 // with these numbers fail.
 fn mount_over(
@@ -62,8 +33,20 @@ fn mount_over(
     requires blocks { g.blocks ≡ 64 }
 {
     let mut image = vec![in alloc; 0u8; 32768]?;
-    put_master(g, &mut image[0..512]);
-    put_metaroot(&g, &mut image[1024..1536]);
+    let root = Metaroot {
+        sequence: 2,
+        free_blocks: 45,
+        free_inodes: 8,
+        next: 19,
+    };
+    encode_master(
+        &Master {
+            geometry: g,
+            time: 5,
+        },
+        &mut image[0..512],
+    );
+    encode_metaroot(&g, &root, &[0u8; 480], &mut image[1024..1536]);
     match mount(alloc, MemoryDisk::new(alloc, 512, &image, 100, fails)?) {
         Ok(mounted) => {
             let Mounted {
