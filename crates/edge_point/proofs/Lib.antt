@@ -1,5 +1,8 @@
+pub mod EndedLaws
 pub mod MountedLaws
 pub mod PhaseLaws
+pub mod ReadLaws
+pub mod RoomLaws
 pub mod SparedLaws
 pub mod StandsLaws
 pub mod TakesLaws

@@ -126,7 +126,7 @@ module _ {D : Type 0} (g : Ghosts D) where
 
     -- ---- it may be taken
 
-    few_free : IsTrue (g.origin p.cache.disk).shows → p.imap.counts.free + p.imap.counts.almost < 2 ^ 32
+    pub few_free : IsTrue (g.origin p.cache.disk).shows → p.imap.counts.free + p.imap.counts.almost < 2 ^ 32
     few_free shows =
         let told = is.told live shows in
         let most = count-few (λ b. not (working_use p.imap (content_in g p.cache) b)) (first_allocable_of p.imap.geometry) (allocable_of p.imap.geometry) in

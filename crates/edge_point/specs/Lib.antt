@@ -1,3 +1,4 @@
+pub mod Ended
 pub mod Mounted
 pub mod Phases
 pub mod Seen

@@ -7,6 +7,8 @@ mod laws;
 mod parts;
 mod phase;
 mod point;
+mod read;
+mod room;
 mod transact;
 
 pub use laws::{
