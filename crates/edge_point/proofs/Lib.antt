@@ -1,4 +1,6 @@
 pub mod EndedLaws
+pub mod FindLaws
+pub mod FoundLaws
 pub mod MountedLaws
 pub mod PhaseLaws
 pub mod ReadLaws

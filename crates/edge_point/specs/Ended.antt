@@ -21,6 +21,13 @@ is_new_by Used = false
 is_new_by New = true
 is_new_by AlmostFree = false
 
+-- whether it is used in the working list
+abbrev pub is_used_by : BlockState → Bool
+is_used_by Free = false
+is_used_by Used = true
+is_used_by New = true
+is_used_by AlmostFree = false
+
 -- the damage that is kept after a fault
 abbrev pub damage_after : Option Damage → StoreFault → Option Damage
 damage_after kept Device = kept

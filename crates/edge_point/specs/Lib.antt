@@ -1,4 +1,5 @@
 pub mod Ended
+pub mod Finding
 pub mod Mounted
 pub mod Phases
 pub mod Seen

@@ -3,6 +3,7 @@
 #![tactic(auto)]
 
 mod begin;
+mod inode;
 mod laws;
 mod parts;
 mod phase;

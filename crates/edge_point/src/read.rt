@@ -10,8 +10,8 @@ ghost use Rattle.edge_imap.specs.Reading.{NeverDamaged, OnlyReads, TellsWhy};
 ghost use Rattle.edge_store.specs.Calls.{Called, KeepsPoint, KeepsWorking, Reads};
 ghost use Rattle.edge_store.specs.State.{HasDamage, IsAllocable, IsLive, Told};
 ghost use Rattle.edge_store.specs.Told.{IsNewOf, MeetsNone};
-ghost use Rattle.edge_store.specs.View.{is_allocable};
 ghost use Rattle.edge_store.specs.declared.fault.StoreFault.TheVariants.{Damaged};
+ghost use Rattle.edge_anchor.specs.Anchor.{HasBit};
 ghost use Rattle.edge_point.specs.Ended.{damage_after, ended, is_new_by, of_imap};
 ghost use Rattle.edge_point.specs.Seen.{state_of};
 ghost use Rattle.edge_point.specs.Standing.{IsPoint};
@@ -59,10 +59,10 @@ fn end_by<D: Disk>(p: &mut Parts<D>, fault: ImapFault) -> StoreFault
     }
 }
 
-// The state of an allocable block.
-fn block_state<D: Disk>(p: &mut Parts<D>, b: u32) -> Result<BlockState, ImapFault>
+// The state of a block that has a bit.
+pub(crate) fn block_state<D: Disk>(p: &mut Parts<D>, b: u32) -> Result<BlockState, ImapFault>
     requires stands { IsPoint D.Disk p.old }
-    requires block { is_allocable p.old.master.geometry b ≡ true }
+    requires block { HasBit p.old.master.geometry b }
     ensures state { IsTrue (D.origin p.old.cache.disk).shows
         → IfOk result (λ s. s ≡ block_state_of
         (used_under p.old.master.geometry p.old.imap.committed (content_in D.Disk p.old.cache) b)

@@ -5,25 +5,21 @@ use Rattle.edge_base.specs.layout.Bitmap.{bit_under}
 use Rattle.edge_cache.specs.Calls.{content_in}
 use Rattle.edge_imap.specs.Bitmaps.{IsFit, IsNamedFor, bits_of, state_of as block_state_of}
 use Rattle.edge_imap.specs.Reading.{TellsWhy}
-use Rattle.edge_nodes.proofs.GeometryLaws.{limits}
-use Rattle.edge_anchor.proofs.PlaceLaws.{allocable_within}
 use Rattle.edge_point.proofs.read.block_state.Goals as goal
 
 pub overflow_sub-bit : goal.overflow_sub-bit
 overflow_sub-bit g c =
-    let r = c.args.p.now.master.geometry in
-    let within = allocable_within r (limits r c.requires.stands.geometry) c.args.b c.requires.block in
-    omega (arith, within.0, c.table_start.ensures)
+    let has = c.requires.block in
+    omega (arith, has.from, c.table_start.ensures)
 
 pub state-requires-clause-fits : goal.state-requires-clause-fits
 state-requires-clause-fits g c = subst (λ (r : Request). IsFit r (g.D.Disk.origin c.args.p.now.cache.disk)) (sym c.requires.stands.imap) c.requires.stands.fits
 
 pub state-requires-clause-bit : goal.state-requires-clause-bit
 state-requires-clause-bit g c =
-    let r = c.args.p.now.master.geometry in
-    let within = allocable_within r (limits r c.requires.stands.geometry) c.args.b c.requires.block in
+    let has = c.requires.block in
     subst (λ (x : Request). c.args.b - c.table_start.result < bits_of x) (sym c.requires.stands.imap)
-    (omega (arith, within.0, within.1, c.table_start.ensures))
+    (omega (arith, has.from, has.below, c.table_start.ensures))
 
 pub returns-clause-state : goal.returns-clause-state
 returns-clause-state g c = λ shows.

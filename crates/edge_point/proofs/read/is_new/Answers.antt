@@ -4,6 +4,8 @@ use Rattle.edge_base.specs.outside.Below.{SameBelow}
 use Rattle.edge_store.specs.Calls.{Called, KeepsPoint, KeepsWorking}
 use Rattle.edge_store.specs.declared.fault.StoreFault.{StoreFault}
 use Rattle.edge_store.specs.declared.fault.StoreFault.TheVariants.{Damaged}
+use Rattle.edge_nodes.proofs.GeometryLaws.{limits}
+use Rattle.edge_anchor.proofs.PlaceLaws.{block_has_bit}
 use Rattle.edge_point.specs.Ended.{damage_after, ended, of_imap}
 use Rattle.edge_point.specs.Seen.{state_of}
 use Rattle.edge_point.specs.Standing.{IsPoint}
@@ -11,6 +13,11 @@ use Rattle.edge_point.specs.declared.parts.Parts.{Parts}
 use Rattle.edge_point.proofs.EndedLaws.{imap_because, imap_never, told_new}
 use Rattle.edge_point.proofs.ReadLaws.{seen_called, seen_failed, seen_is, seen_keeps, seen_point, seen_works}
 use Rattle.edge_point.proofs.read.is_new.Goals as goal
+
+pub block_state-requires-clause-block : goal.block_state-requires-clause-block
+block_state-requires-clause-block g c =
+    let r = c.args.p.now.master.geometry in
+    block_has_bit r (limits r c.requires.stands.geometry) c.args.b c.requires.block
 
 same_fault : (r : Result Bool StoreFault) (a b : StoreFault) → r ≡ Err a → r ≡ Err b → a ≡ b
 same_fault r a b first second = cc
