@@ -4,8 +4,6 @@
 mod chain;
 mod link;
 mod own;
-#[cfg(test)]
-mod tests;
 mod walk;
 mod writable;
 
