@@ -1,12 +1,16 @@
+pub mod ChangeLaws
 pub mod EndedLaws
 pub mod FindLaws
 pub mod FoundLaws
 pub mod MountedLaws
 pub mod PhaseLaws
+pub mod PlacedLaws
 pub mod ReadLaws
 pub mod RoomLaws
 pub mod SparedLaws
 pub mod StandsLaws
+pub mod StepLaws
 pub mod TakesLaws
 pub mod TieLaws
 pub mod TransactLaws
+pub mod WorkingLaws

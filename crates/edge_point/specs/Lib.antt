@@ -1,3 +1,4 @@
+pub mod Changing
 pub mod Ended
 pub mod Finding
 pub mod Mounted

@@ -41,7 +41,7 @@ pub(crate) struct Found {
 }
 
 // The fault of a bitmap, as one of a store.
-fn fault_of(fault: ImapFault) -> StoreFault
+pub(crate) fn fault_of(fault: ImapFault) -> StoreFault
     ensures { result ≡ of_imap fault }
 {
     match fault {
@@ -186,7 +186,7 @@ fn seek<D: Disk>(p: &mut Parts<D>, n: u32) -> Result<Option<Found>, StoreFault>
 }
 
 // Ends the store with a fault, and answers it.
-fn end_with<D: Disk>(p: &mut Parts<D>, fault: StoreFault) -> StoreFault
+pub(crate) fn end_with<D: Disk>(p: &mut Parts<D>, fault: StoreFault) -> StoreFault
     ensures answer { result ≡ fault }
     ensures ended { p.new ≡ ended p.old (damage_after p.old.damage fault) }
 {

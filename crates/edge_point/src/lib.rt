@@ -10,6 +10,7 @@ mod phase;
 mod point;
 mod read;
 mod room;
+mod steps;
 mod transact;
 
 pub use laws::{
