@@ -1,4 +1,6 @@
+pub mod BlockLaws
 pub mod EndedLaws
+pub mod EndingLaws
 pub mod FindLaws
 pub mod FoundLaws
 pub mod MountedLaws

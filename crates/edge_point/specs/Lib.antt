@@ -1,3 +1,4 @@
+pub mod Blocks
 pub mod Ended
 pub mod Finding
 pub mod Mounted
@@ -7,3 +8,4 @@ pub mod Spared
 pub mod Standing
 pub mod StandingLaws
 pub mod Steps
+pub mod ViewLaws
