@@ -1,5 +1,7 @@
+pub mod BlockLaws
 pub mod ChangeLaws
 pub mod EndedLaws
+pub mod EndingLaws
 pub mod FindLaws
 pub mod FoundLaws
 pub mod MountedLaws

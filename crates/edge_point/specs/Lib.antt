@@ -1,3 +1,4 @@
+pub mod Blocks
 pub mod Changing
 pub mod Ended
 pub mod Finding
@@ -8,3 +9,4 @@ pub mod Spared
 pub mod Standing
 pub mod StandingLaws
 pub mod Steps
+pub mod ViewLaws

@@ -3,6 +3,7 @@
 #![tactic(auto)]
 
 mod begin;
+mod block;
 mod inode;
 mod laws;
 mod parts;
@@ -12,6 +13,7 @@ mod read;
 mod room;
 mod steps;
 mod transact;
+mod views;
 
 pub use laws::{
     a_tied_bitmap_may_follow, the_last_point_stays, the_next_point_is_on_the_disk,
@@ -20,6 +22,7 @@ pub use laws::{
 pub use parts::Parts;
 pub use phase::{commit, take_point};
 pub use point::Point;
+pub use views::{a_store_over_a_disk_is_a_store, a_view_over_whole_blocks_is_a_view};
 
 #[cfg(test)]
 mod tests;
