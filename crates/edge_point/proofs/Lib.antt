@@ -1,12 +1,17 @@
+pub mod AnswerLaws
 pub mod BlockLaws
 pub mod ChangeLaws
+pub mod EffectLaws
 pub mod EndedLaws
 pub mod EndingLaws
 pub mod FindLaws
 pub mod FoundLaws
+pub mod FreeLaws
 pub mod MountedLaws
+pub mod NodeLaws
 pub mod PhaseLaws
 pub mod PlacedLaws
+pub mod PutLaws
 pub mod ReadLaws
 pub mod RoomLaws
 pub mod SparedLaws

@@ -9,4 +9,5 @@ pub mod Spared
 pub mod Standing
 pub mod StandingLaws
 pub mod Steps
+pub mod Uses
 pub mod ViewLaws

@@ -4,16 +4,22 @@
 
 mod begin;
 mod block;
+mod copied;
+mod free;
 mod inode;
 mod laws;
+mod look;
 mod parts;
 mod phase;
 mod point;
+mod put;
 mod read;
 mod room;
 mod steps;
+mod taken;
 mod transact;
 mod views;
+mod written;
 
 pub use laws::{
     a_tied_bitmap_may_follow, the_last_point_stays, the_next_point_is_on_the_disk,
