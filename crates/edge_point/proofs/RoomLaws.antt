@@ -19,7 +19,7 @@ use Rattle.edge_point.specs.Standing.{IsPoint}
 use Rattle.edge_point.specs.declared.parts.Parts.{Parts}
 use Rattle.edge_point.proofs.EndedLaws.{last_told, next_told}
 
-within : (first len k : ℕ) → first ≤ k → k < first + len → (nat_le first k && nat_lt k (first + len)) ≡ true
+pub within : (first len k : ℕ) → first ≤ k → k < first + len → (nat_le first k && nat_lt k (first + len)) ≡ true
 within first len k from below = grind (arith, nat_tests)
 
 none_by : (g : Request) (content : ℕ → List ℕ) (n : ℕ) (s t : Bool) → is_none (inode_by g content n s t) ≡ (not s && not t)

@@ -104,7 +104,7 @@ module _ (a : Anchor) (m n : Medium) (follows : Follows (Spares a) m n) (is : Is
   pub spared_shown : (k : ℕ) → Needs a k → n.disk.shown k ≡ m.disk.shown k
   spared_shown = shown_kept (Spares a) m n follows (Needs a) (λ k c spares needs. spares.0 needs) is.needed
 
-  spared_committed : IsCommitted a n
+  pub spared_committed : IsCommitted a n
   spared_committed = committed_follows (Spares a) m n follows a (λ k c spares needs. spares.0 needs) (λ c spares. spares.1 refl) is
 
   pub last_stays : IsCommitted (as_told a n.disk.shown) n

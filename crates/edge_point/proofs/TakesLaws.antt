@@ -31,7 +31,7 @@ pub if_same : {A : Type 0} (x y : Bool) (v w o : A) → x ≡ y → (y ≡ true 
 if_same x y v w o e same = ap (λ z. if z then v else o) e
     ∙ elim y as (λ z. (z ≡ true → v ≡ w) → (if z then v else o) ≡ (if z then w else o)) [ true ↦ λ f. f refl | false ↦ λ f. refl ] same
 
-untorn_none : (t : Bool) (v w : View) → t ≡ false → (if t then Some v else None) ≡ (if t then Some w else None)
+pub untorn_none : (t : Bool) (v w : View) → t ≡ false → (if t then Some v else None) ≡ (if t then Some w else None)
 untorn_none true v w e = absurd (cc)
 untorn_none false v w e = refl
 

@@ -1,3 +1,5 @@
+pub mod Blocks
+pub mod Changing
 pub mod Ended
 pub mod Finding
 pub mod Mounted
@@ -7,3 +9,5 @@ pub mod Spared
 pub mod Standing
 pub mod StandingLaws
 pub mod Steps
+pub mod Uses
+pub mod ViewLaws

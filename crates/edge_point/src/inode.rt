@@ -41,7 +41,7 @@ pub(crate) struct Found {
 }
 
 // The fault of a bitmap, as one of a store.
-fn fault_of(fault: ImapFault) -> StoreFault
+pub(crate) fn fault_of(fault: ImapFault) -> StoreFault
     ensures { result ≡ of_imap fault }
 {
     match fault {
@@ -51,7 +51,7 @@ fn fault_of(fault: ImapFault) -> StoreFault
 }
 
 // The kind of damage that a fault of a node is.
-fn kind_of(fault: NodeFault) -> DamageKind
+pub(crate) fn kind_of(fault: NodeFault) -> DamageKind
     ensures { result ≡ kind_of_fault fault }
 {
     match fault {
@@ -72,7 +72,7 @@ fn is_used_state(state: BlockState) -> bool
 }
 
 // Whether the working list uses a block that has a bit.
-fn is_used<D: Disk>(p: &mut Parts<D>, b: u32) -> Result<bool, StoreFault>
+pub(crate) fn is_used<D: Disk>(p: &mut Parts<D>, b: u32) -> Result<bool, StoreFault>
     requires stands { IsPoint D.Disk p.old }
     requires block { HasBit p.old.master.geometry b }
     ensures sees { Sees D.Disk p.old p.new result }
@@ -186,7 +186,7 @@ fn seek<D: Disk>(p: &mut Parts<D>, n: u32) -> Result<Option<Found>, StoreFault>
 }
 
 // Ends the store with a fault, and answers it.
-fn end_with<D: Disk>(p: &mut Parts<D>, fault: StoreFault) -> StoreFault
+pub(crate) fn end_with<D: Disk>(p: &mut Parts<D>, fault: StoreFault) -> StoreFault
     ensures answer { result ≡ fault }
     ensures ended { p.new ≡ ended p.old (damage_after p.old.damage fault) }
 {

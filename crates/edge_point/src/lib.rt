@@ -3,14 +3,23 @@
 #![tactic(auto)]
 
 mod begin;
+mod block;
+mod copied;
+mod free;
 mod inode;
 mod laws;
+mod look;
 mod parts;
 mod phase;
 mod point;
+mod put;
 mod read;
 mod room;
+mod steps;
+mod taken;
 mod transact;
+mod views;
+mod written;
 
 pub use laws::{
     a_tied_bitmap_may_follow, the_last_point_stays, the_next_point_is_on_the_disk,
@@ -19,6 +28,7 @@ pub use laws::{
 pub use parts::Parts;
 pub use phase::{commit, take_point};
 pub use point::Point;
+pub use views::{a_store_over_a_disk_is_a_store, a_view_over_whole_blocks_is_a_view};
 
 #[cfg(test)]
 mod tests;
