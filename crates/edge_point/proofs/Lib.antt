@@ -1,3 +1,4 @@
+pub mod AfterLaws
 pub mod ChangeLaws
 pub mod EndedLaws
 pub mod FindLaws
@@ -7,6 +8,7 @@ pub mod PhaseLaws
 pub mod PlacedLaws
 pub mod ReadLaws
 pub mod RoomLaws
+pub mod SetLaws
 pub mod SparedLaws
 pub mod StandsLaws
 pub mod StepLaws

@@ -3,6 +3,7 @@
 #![tactic(auto)]
 
 mod begin;
+mod change;
 mod inode;
 mod laws;
 mod parts;
