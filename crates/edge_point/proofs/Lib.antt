@@ -1,4 +1,5 @@
 pub mod AfterLaws
+pub mod AgainLaws
 pub mod ChangeLaws
 pub mod EndedLaws
 pub mod FindLaws

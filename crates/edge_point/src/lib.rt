@@ -11,6 +11,7 @@ mod phase;
 mod point;
 mod read;
 mod room;
+mod set;
 mod steps;
 mod transact;
 
