@@ -73,13 +73,15 @@ pub tells_damage : {T : Type 0} (met : Option Damage) (r : Result T StoreFault) 
 tells_damage met r d is e = subst (TellsMet met) (sym is) e
 
 -- a fault that tells no damage
-pub tells_fault : {S T : Type 0} (met : Option Damage) (s : Result S StoreFault) (r : Result T StoreFault) (f : StoreFault) → s ≡ Err f → NeverDamaged s → r ≡ Err f
+pub tells_fault : {S T : Type 0} (met : Option Damage) (s : Result S StoreFault) (r : Result T StoreFault) (f : StoreFault) → s ≡ Err f → NeverDamaged s
+    → r ≡ Err f
     → TellsMet met r
 tells_fault met s r Device was never is = tells_device met r is
 tells_fault met s r (Damaged d) was never is = absurd (never d was)
 
 -- a fault is passed on
-pub tells_as : {S T : Type 0} (met : Option Damage) (s : Result S StoreFault) (r : Result T StoreFault) (f : StoreFault) → TellsMet met s → s ≡ Err f → r ≡ Err f → TellsMet met r
+pub tells_as : {S T : Type 0} (met : Option Damage) (s : Result S StoreFault) (r : Result T StoreFault) (f : StoreFault) → TellsMet met s → s ≡ Err f
+    → r ≡ Err f → TellsMet met r
 tells_as met s r Device tells was is = tells_device met r is
 tells_as met s r (Damaged d) tells was is = tells_damage met r d is (subst (TellsMet met) was tells)
 
@@ -112,7 +114,8 @@ module _ (g : Request) (used : ℕ → Bool) (bytes : ℕ → List ℕ) (owner b
     abbrev node_in : Content
     node_in = pointers (Ok (record { owner = owner; entries = numbers_at 20 (pointers_of g) (bytes b) }))
 
-    told_node : (double : Bool) (r : Result PointerNode NodeFault) → r ≡ pointer_in g double (bytes b) → damage_in b owner (pointers r) ≡ None → pointers r ≡ node_in
+    told_node : (double : Bool) (r : Result PointerNode NodeFault) → r ≡ pointer_in g double (bytes b) → damage_in b owner (pointers r) ≡ None
+        → pointers r ≡ node_in
     told_node double (Ok node) is e =
         let same = eqb-true node.owner owner (when_none (node.owner == owner) (record { block = b; kind = kinds.WrongOwner }) e) in
         let entries = ((pointer_in-decides g double (bytes b) node whole).0 (sym is)).entries_are in
@@ -132,7 +135,8 @@ module _ (g : Request) (used : ℕ → Bool) (bytes : ℕ → List ℕ) (owner b
         (sym (block_is g used bytes form owner b may (used b) refl)) (told_form form (used b) node)
 
     -- an entry of it
-    pub entry_met : (form : Form) (room : List ℕ) (i to : ℕ) → form ≢ Plain → damage_at (view_over g used bytes) form owner b ≡ None → room ≡ bytes b → i < pointers_of g
+    pub entry_met : (form : Form) (room : List ℕ) (i to : ℕ) → form ≢ Plain → damage_at (view_over g used bytes) form owner b ≡ None → room ≡ bytes b
+        → i < pointers_of g
         → to ≡ number_at (20 + 4 * i) 4 room → to ≡ slice_index (entries_in (content_at (view_over g used bytes) form b)) i
     entry_met form room i to node none same below is =
         is ∙ ap (number_at (20 + 4 * i) 4) same

@@ -1,8 +1,7 @@
 -- A call that only reads, and ends the store where it answers a fault.
-use Rattle.std.proofs.Common.{◌≡◌, Bool, true, false, Option, Some, None, Ok, Err, refl, sym, ap, ◌∙◌, subst}
+use Rattle.std.proofs.Common.{◌≡◌, Bool, true, false, Option, Some, Ok, Err, refl, sym, ap, ◌∙◌, subst}
 use Rattle.std.specs.Prelude.{Result, IfOk, OnOk, IsTrue}
 use Rattle.edge_base.specs.declared.damage.Damage.{Damage}
-use Rattle.edge_base.specs.declared.form.Form.{Form}
 use Rattle.edge_base.specs.outside.Below.{SameBelow}
 use Rattle.edge_cache.specs.Cached.{IsClean}
 use Rattle.edge_disk.specs.declared.disk.Disk.{Ghosts}

@@ -1,5 +1,5 @@
 -- The views of a store have what every view has, and the other laws of a store.
-use Rattle.std.proofs.Common.{◌≡◌, ℕ, ◌+◌, ◌*◌, ◌<◌, ◌==◌, ◌&&◌, ◌||◌, Bool, true, false, not, cond, map, List, drop, length, Option, Some, None, Ok, Err, refl, sym, ap, ◌∙◌, subst, arith}
+use Rattle.std.proofs.Common.{◌≡◌, ℕ, ◌+◌, ◌*◌, ◌<◌, ◌==◌, ◌&&◌, ◌||◌, Bool, true, false, not, cond, List, drop, length, Option, Some, None, Ok, Err, refl, sym, ap, ◌∙◌, subst, arith}
 use Rattle.std.specs.Prelude.{Result, IsTrue, is_some, nat_le}
 use Rattle.std.specs.List.{range_with_len}
 use Rattle.std.proofs.lemmas.Bool.{and_parts}
@@ -54,7 +54,8 @@ rules_by false none size links parent is some good = λ t. some t && true
 -- the tests of an inode in a row, each with its fault
 abbrev tested : Bool → Bool → Bool → Bool → Bool → Head → Result Head NodeFault
 tested sign word kind none bad head =
-    cond (not sign) (Err WrongSignature) (cond (not word) (Err WrongWord) (cond (not kind) (Err (WrongField 24)) (cond none (Err (WrongField 26)) (cond bad (Err (WrongField 28)) (Ok head)))))
+    cond (not sign) (Err WrongSignature) (cond (not word) (Err WrongWord)
+    (cond (not kind) (Err (WrongField 24)) (cond none (Err (WrongField 26)) (cond bad (Err (WrongField 28)) (Ok head)))))
 
 passed : (sign word kind none bad : Bool) (x y : Head) → tested sign word kind none bad x ≡ Ok y → (none ≡ false) × (bad ≡ false) × (x ≡ y)
 passed true true true false false x y e = (refl, refl, cc e)
@@ -140,7 +141,8 @@ content_full g Double false list node len e = absurd (cc e)
 
 -- ---- views
 
-module _ (g : Request) (used : ℕ → Bool) (bytes : ℕ → List ℕ) (whole_blocks : (b : ℕ) → is_allocable g b ≡ true → used b ≡ true → length (bytes b) ≡ g.block_size) where
+module _ (g : Request) (used : ℕ → Bool) (bytes : ℕ → List ℕ) (whole_blocks : (b : ℕ) → is_allocable g b ≡ true → used b ≡ true → length
+    (bytes b) ≡ g.block_size) where
   has_whole : (b : ℕ) → (is_allocable g b && used b) ≡ true → length (bytes b) ≡ g.block_size
   has_whole b e = let parts = and_parts (is_allocable g b) (used b) e in whole_blocks b parts.0 parts.1
 
@@ -176,7 +178,8 @@ module _ {D : Type 0} (g : Ghosts D) (p : Parts D) (is : IsPoint g p) where
       → Told (state_of g p) → IsView request (state_of g p).committed
   committed_view law told = told_view (last_view g p) told
       (over_is_view request (used_under request p.imap.committed (g.shown p.cache.disk)) (g.shown p.cache.disk)
-      (λ b may used. law b told (let within = allocable_within request (limits request is.geometry) b may in let fits = is.fits.blocks in omega arith) ∙ is.fits.size))
+      (λ b may used. law b told (let within = allocable_within request (limits request is.geometry) b may in let fits = is.fits.blocks in omega arith)
+      ∙ is.fits.size))
 
   pub working_view : Told (state_of g p) → IsLive (state_of g p) → IsView request (state_of g p).working
   working_view told live = told_view (next_view g p) told

@@ -9,6 +9,8 @@ use std::alloc::{AllocError, Global};
 use std::process::Abort;
 use std::test::Fail;
 
+mod reading;
+
 // A cache over 64 blocks of 512 bytes.
 fn cache_of(alloc: Global) -> Result<Cache<MemoryDisk>, AllocError>
     ensures blocks { IfOk result (λ c. (origin_of c.disk).blocks ≡ 64) }

@@ -1,4 +1,4 @@
-use Rattle.std.proofs.Common.{◌≡◌, ◌∙◌, Err, sym, ap}
+use Rattle.std.proofs.Common.{◌∙◌, Err, sym, ap}
 use Rattle.std.specs.Prelude.{Result}
 use Rattle.edge_base.specs.declared.damage.DamageKind.{DamageKind}
 use Rattle.edge_base.specs.layout.Spelling.{pointer_in}
@@ -16,4 +16,5 @@ pub returns-in-Err : goal.returns-in-Err
 returns-in-Err c =
     let damaged : DamageKind → Result (Unit {0}) StoreFault = λ k. Err (Damaged (record { block = c.args.s.block; kind = k })) in
     ap (λ (f : StoreFault). Err f) c.damaged.ensures ∙ ap damaged c.kind_of.ensures
-    ∙ ap met_told (sym (met_fault c.args.s.block c.args.s.owner c.in-Err.fault (pointer_in c.args.g.now c.args.double c.args.bytes.now) (sym c.in-Err.ensures.exact)))
+    ∙ ap met_told (sym (met_fault c.args.s.block c.args.s.owner c.in-Err.fault (pointer_in c.args.g.now c.args.double c.args.bytes.now)
+    (sym c.in-Err.ensures.exact)))

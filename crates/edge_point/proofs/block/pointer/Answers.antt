@@ -10,9 +10,12 @@ use Rattle.edge_point.specs.Seen.{next_view, state_of, view_told}
 use Rattle.edge_point.proofs.EndingLaws.{Leaves, leaves, meets, told_met, told_then}
 use Rattle.edge_point.proofs.block.pointer.Goals as goal
 
-left : (g : Rattle.edge_point.proofs.block.pointer.Given.Over) (c : goal.After-end_by_step g) → Leaves g.D.Disk c.args.p.now c.end_by_step.new.p c.end_by_step.result
-left g c = leaves g.D.Disk c.args.p.now c.seek_pointer-step.new.p c.requires.stands c.requires.live (g.met.D.Disk.sure_is_shown c.seek_pointer-step.new.p.cache.disk)
-    c.end_by_step.new.p c.seek_pointer-step.result c.end_by_step.result c.seek_pointer-step.ensures.sees c.end_by_step.ensures.answer c.end_by_step.ensures.ended
+left : (g : Rattle.edge_point.proofs.block.pointer.Given.Over) (c : goal.After-end_by_step g)
+    → Leaves g.D.Disk c.args.p.now c.end_by_step.new.p c.end_by_step.result
+left g c = leaves g.D.Disk c.args.p.now c.seek_pointer-step.new.p c.requires.stands c.requires.live
+    (g.met.D.Disk.sure_is_shown c.seek_pointer-step.new.p.cache.disk)
+    c.end_by_step.new.p c.seek_pointer-step.result c.end_by_step.result c.seek_pointer-step.ensures.sees c.end_by_step.ensures.answer
+    c.end_by_step.ensures.ended
 
 pub returns-clause-stands : goal.returns-clause-stands
 returns-clause-stands g c = (left g c).stands
@@ -52,5 +55,6 @@ returns-clause-pointer g c =
     let step = c.seek_pointer-step in
     subst (λ (r : Result ℕ StoreFault). IfOk r (IsPointerOf (state_of d p) s c.args.i)) (sym c.end_by_step.ensures.answer)
     (told_then step.result (Told (state_of d p)) (λ to. to ≡ slice_index (entries_in (content_at (state_of d p).working s.form s.block)) c.args.i)
-    (λ told. subst (λ (t : Bool). IfOk step.result (λ to. to ≡ slice_index (entries_in (content_at (view_told t (next_view d p)) s.form s.block)) c.args.i)) (sym told)
+    (λ told. subst (λ (t : Bool). IfOk step.result (λ to. to ≡ slice_index
+    (entries_in (content_at (view_told t (next_view d p)) s.form s.block)) c.args.i)) (sym told)
     (step.ensures.pointer told (c.requires.stands.told c.requires.live told).tied)))

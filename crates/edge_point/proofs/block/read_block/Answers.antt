@@ -11,8 +11,10 @@ use Rattle.edge_point.specs.Seen.{next_view, state_of, view_told}
 use Rattle.edge_point.proofs.EndingLaws.{Leaves, leaves, meets, told_after, told_met}
 use Rattle.edge_point.proofs.block.read_block.Goals as goal
 
-left : (g : Rattle.edge_point.proofs.block.read_block.Given.Over) (c : goal.After-end_by_step g) → Leaves g.D.Disk c.args.p.now c.end_by_step.new.p c.end_by_step.result
-left g c = leaves g.D.Disk c.args.p.now c.seek_bytes-step.new.p c.requires.stands c.requires.live (g.met.D.Disk.sure_is_shown c.seek_bytes-step.new.p.cache.disk)
+left : (g : Rattle.edge_point.proofs.block.read_block.Given.Over) (c : goal.After-end_by_step g)
+    → Leaves g.D.Disk c.args.p.now c.end_by_step.new.p c.end_by_step.result
+left g c = leaves g.D.Disk c.args.p.now c.seek_bytes-step.new.p c.requires.stands c.requires.live
+    (g.met.D.Disk.sure_is_shown c.seek_bytes-step.new.p.cache.disk)
     c.end_by_step.new.p c.seek_bytes-step.result c.end_by_step.result c.seek_bytes-step.ensures.sees c.end_by_step.ensures.answer c.end_by_step.ensures.ended
 
 pub returns-clause-stands : goal.returns-clause-stands
@@ -54,5 +56,6 @@ returns-clause-bytes g c =
     let until = c.args.at + length c.args.out.now in
     subst (λ (r : Result (Unit {0}) StoreFault). OnOk r (AreBytesOf (state_of d p) s c.args.at until step.new.out)) (sym c.end_by_step.ensures.answer)
     (told_after step.result (Told (state_of d p)) (step.new.out ≡ slice_range (bytes_in (content_at (state_of d p).working Plain s.block)) c.args.at until)
-    (λ told. subst (λ (t : Bool). OnOk step.result (step.new.out ≡ slice_range (bytes_in (content_at (view_told t (next_view d p)) Plain s.block)) c.args.at until)) (sym told)
+    (λ told. subst (λ (t : Bool). OnOk step.result (step.new.out ≡ slice_range
+    (bytes_in (content_at (view_told t (next_view d p)) Plain s.block)) c.args.at until)) (sym told)
     (step.ensures.bytes told (c.requires.stands.told c.requires.live told).tied)))

@@ -1,4 +1,4 @@
-use Rattle.std.proofs.Common.{◌≡◌, ◌+◌, ◌<◌, ℕ, List, None, refl, sym, ap, ◌∙◌, subst, length, arith}
+use Rattle.std.proofs.Common.{◌≡◌, ◌+◌, ℕ, List, None, refl, sym, ap, ◌∙◌, subst, length, arith}
 use Rattle.std.specs.Prelude.{slice_range}
 use Rattle.edge_base.specs.declared.form.Form.{Form}
 use Rattle.edge_base.specs.layout.Bitmap.{used_under}
@@ -15,7 +15,8 @@ use Rattle.edge_point.proofs.block.seek_bytes.Goals as goal
 
 pub returns-in_err-seek_block-clause-sees : goal.returns-in_err-seek_block-clause-sees
 returns-in_err-seek_block-clause-sees g c =
-    sees_as g.D.Disk c.args.p.now c.seek_block.new.p c.seek_block.result _ c.in_err-seek_block.field-0.0 c.seek_block.ensures.sees c.in_err-seek_block.was (err_is _ _ c.from_residual.ensures)
+    sees_as g.D.Disk c.args.p.now c.seek_block.new.p c.seek_block.result _ c.in_err-seek_block.field-0.0 c.seek_block.ensures.sees
+    c.in_err-seek_block.was (err_is _ _ c.from_residual.ensures)
 
 pub returns-in_err-seek_block-clause-met : goal.returns-in_err-seek_block-clause-met
 returns-in_err-seek_block-clause-met g c = λ shows tied.
@@ -53,7 +54,8 @@ returns-in-Ok-clause-sees g c =
       torn = refl;
       damage = refl;
       block = refl;
-    }) refl (reads_call d m.cache c.read.new.self c.read.ensures.origin c.read.ensures.only c.read.ensures.clean) c.read.ensures.cause.later c.in-Ok.ensures.cause.passed)
+    }) refl (reads_call d m.cache c.read.new.self c.read.ensures.origin c.read.ensures.only c.read.ensures.clean) c.read.ensures.cause.later
+    c.in-Ok.ensures.cause.passed)
 
 pub returns-in-Ok-clause-met : goal.returns-in-Ok-clause-met
 returns-in-Ok-clause-met g c = c.in_ok-seek_block.ensures.met
@@ -88,4 +90,5 @@ returns-in-Err-clause-sees g c =
       torn = refl;
       damage = refl;
       block = refl;
-    }) refl (reads_call d m.cache c.read.new.self c.read.ensures.origin c.read.ensures.only c.read.ensures.clean) c.read.ensures.cause.later (c.in-Err.ensures.cause.failed, refl))
+    }) refl (reads_call d m.cache c.read.new.self c.read.ensures.origin c.read.ensures.only c.read.ensures.clean) c.read.ensures.cause.later
+    (c.in-Err.ensures.cause.failed, refl))

@@ -10,7 +10,8 @@ use Rattle.edge_point.proofs.block.seek_pointer.Goals as goal
 
 pub returns-in_err-seek_block-clause-sees : goal.returns-in_err-seek_block-clause-sees
 returns-in_err-seek_block-clause-sees g c =
-    sees_as g.D.Disk c.args.p.now c.seek_block.new.p c.seek_block.result _ c.in_err-seek_block.field-0.0 c.seek_block.ensures.sees c.in_err-seek_block.was (err_is _ _ c.from_residual.ensures)
+    sees_as g.D.Disk c.args.p.now c.seek_block.new.p c.seek_block.result _ c.in_err-seek_block.field-0.0 c.seek_block.ensures.sees
+    c.in_err-seek_block.was (err_is _ _ c.from_residual.ensures)
 
 pub returns-in_err-seek_block-clause-met : goal.returns-in_err-seek_block-clause-met
 returns-in_err-seek_block-clause-met g c = λ shows tied.
@@ -20,7 +21,8 @@ returns-in_err-seek_block-clause-met g c = λ shows tied.
 
 pub entry_of-requires : goal.entry_of-requires
 entry_of-requires g c =
-    let block : length c.seek_block.new.p.block.items ≡ c.args.p.now.master.geometry.block_size = c.seek_block.ensures.sees.rest.block ∙ c.requires.stands.block in
+    let block : length c.seek_block.new.p.block.items ≡ c.args.p.now.master.geometry.block_size = c.seek_block.ensures.sees.rest.block
+    ∙ c.requires.stands.block in
     omega (arith, block, c.requires.place)
 
 pub returns-clause-sees : goal.returns-clause-sees
@@ -37,6 +39,7 @@ returns-clause-pointer g c = λ shows tied.
     let s = c.args.s in
     let content = content_in g.D.Disk p.cache in
     entry_met p.master.geometry (used_under p.master.geometry p.imap.working content) content s.owner s.block c.requires.block
-    ((c.requires.stands.told c.requires.live shows).whole s.block c.requires.block) s.form c.seek_block.new.p.block.items c.args.i c.entry_of.result c.requires.form
+    ((c.requires.stands.told c.requires.live shows).whole s.block c.requires.block) s.form c.seek_block.new.p.block.items c.args.i c.entry_of.result
+    c.requires.form
     (c.in_ok-seek_block.ensures.met shows tied) (c.in_ok-seek_block.ensures.bytes shows c.requires.form) c.requires.place
     (c.entry_of.ensures ∙ ap (number_at (20 + 4 * c.args.i) 4) c.deref.ensures.value)
