@@ -16,7 +16,7 @@ use Rattle.edge_store.specs.Calls.{Meets, NeverDamaged}
 use Rattle.edge_store.specs.Damages.{damage_at}
 use Rattle.edge_store.specs.Effects.{BlockDropped, BytesSet, Copied, IsFresh, PointerSet, Taken, put_in}
 use Rattle.edge_store.specs.State.{StoreState}
-use Rattle.edge_store.specs.View.{Block, View, bytes, bytes_in, content, content_at, entries_in, is_new, is_owned_by, is_spot, is_used, pointers, unused, with_block}
+use Rattle.edge_store.specs.View.{Block, View, bytes, bytes_in, content, content_at, entries_in, is_new, is_owned_by, is_spot, is_used, pointers, with_block}
 use Rattle.edge_store.specs.declared.fault.StoreFault.{StoreFault}
 use Rattle.edge_store.proofs.ViewLaws.{no_damage_of, used_of, with_block_apart}
 use Rattle.edge_cache.specs.Blocks.{changed_by, word_holds_in}

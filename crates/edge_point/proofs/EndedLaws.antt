@@ -22,7 +22,7 @@ use Rattle.edge_store.specs.declared.fault.StoreFault.TheVariants.{Damaged}
 use Rattle.edge_anchor.specs.Anchor.{to_node}
 use Rattle.edge_anchor.proofs.PlaceLaws.{block_has_bit}
 use Rattle.edge_anchor.proofs.ViewLaws.{used_same}
-use Rattle.edge_point.specs.Ended.{damage_after, ended, is_new_by, of_imap}
+use Rattle.edge_point.specs.Ended.{damage_after, ended, is_committed_by, is_new_by, of_imap}
 use Rattle.edge_point.specs.Seen.{IsGuarded, last_view, next_view, state_of, view_told}
 use Rattle.edge_point.specs.Standing.{IsPoint}
 use Rattle.edge_point.specs.declared.parts.Parts.{Parts}
@@ -66,11 +66,17 @@ imap_never s (imap.Damaged x) d is never e = never x is
 
 -- ---- the states of blocks
 
-new_by : (c w : Bool) → is_new_by (block_state_of c w) ≡ (w && not c)
+pub new_by : (c w : Bool) → is_new_by (block_state_of c w) ≡ (w && not c)
 new_by true true = refl
 new_by true false = refl
 new_by false true = refl
 new_by false false = refl
+
+pub committed_by : (c w : Bool) → is_committed_by (block_state_of c w) ≡ c
+committed_by true true = refl
+committed_by true false = refl
+committed_by false true = refl
+committed_by false false = refl
 
 used_over : (g : Request) (used : ℕ → Bool) (content : ℕ → List ℕ) (b : ℕ) → is_allocable g b ≡ true → is_used (view_over g used content) b ≡ used b
 used_over g used content b may = ap (λ t. is_some (cond (t && used b) (Some (block_told g (content b))) None)) may ∙ by_use (used b)

@@ -22,6 +22,7 @@ use Rattle.edge_point.specs.Seen.{state_of}
 use Rattle.edge_point.specs.Standing.{IsPoint}
 use Rattle.edge_point.specs.Uses.{BlockEmptied, BlockPut, CopyPut, EmptiesBlock, HoldsBytes, HoldsSpot, IsFreeIn, IsUnused, PutsBlock, PutsCopy, SetsUse}
 use Rattle.edge_point.specs.declared.parts.Parts.{Parts}
+use Rattle.edge_point.proofs.AnswerLaws.{told_mid}
 use Rattle.edge_point.proofs.EffectLaws.{none_of}
 use Rattle.edge_point.proofs.EndedLaws.{last_told, next_told}
 
@@ -66,7 +67,7 @@ module _ {D : Type 0} (g : Ghosts D) (p : Parts D) (is : IsPoint g p) where
 
 module _ (old mid : StoreState) (origin : mid.origin ≡ old.origin) where
   told_back : Told mid → Told old
-  told_back told = ap (λ (o : Origin). o.tells) (sym origin) ∙ told
+  told_back = told_mid mid old (sym origin)
 
   -- a free block whose use was set is new
   pub new_of : (b : ℕ) → KeepsPoint old mid → IsFreeIn old b → SetsUse old mid b true → IsNew mid b
@@ -75,33 +76,31 @@ module _ (old mid : StoreState) (origin : mid.origin ≡ old.origin) where
       let off : is_used mid.committed b ≡ false = ap (λ (v : View). is_used v b) point.committed ∙ ap is_some (free before).uncommitted in
       λ t. (sets before).here t && not (off t)
 
-  told_mid : Told old → Told mid
-  told_mid told = ap (λ (o : Origin). o.tells) origin ∙ told
-
   pub emptied_from : (new : StoreState) (form : Form) (owner b : ℕ) → EmptiesBlock mid new form owner b → Told old
       → BlockEmptied old.origin.request mid.working new.working form owner b
   emptied_from new form owner b empties told = subst (λ (o : Origin). BlockEmptied o.request mid.working new.working form owner b) origin
-      (empties (told_mid told))
+      (empties (told_mid old mid origin told))
 
   pub copied_from : (new : StoreState) (b : ℕ) (node : Bool) (from : List ℕ) → PutsCopy mid new b node from → Told old
       → CopyPut old.origin.request mid.working new.working b node from
-  copied_from new b node from copies told = subst (λ (o : Origin). CopyPut o.request mid.working new.working b node from) origin (copies (told_mid told))
+  copied_from new b node from copies told = subst (λ (o : Origin). CopyPut o.request mid.working new.working b node from) origin
+      (copies (told_mid old mid origin told))
 
   pub put_from : (new : StoreState) (b : ℕ) (make : List ℕ → List ℕ) → mid.working ≡ old.working → PutsBlock mid new b make → Told old
       → BlockPut old.origin.request old.working new.working b make
   put_from new b make same puts told = subst (λ (o : Origin). BlockPut o.request old.working new.working b make) origin
-      (subst (λ (v : View). BlockPut mid.origin.request v new.working b make) same (puts (told_mid told)))
+      (subst (λ (v : View). BlockPut mid.origin.request v new.working b make) same (puts (told_mid old mid origin told)))
 
   module _ (new : StoreState) (committed : mid.committed ≡ old.committed) (working : mid.working ≡ old.working) where
     pub takes_from : (form : Form) (owner b : ℕ) → Takes mid new form owner b → Takes old new form owner b
     takes_from form owner b takes told = subst (λ (o : Origin). Taken o.request old.committed old.working new.working form owner b) origin
         (subst (λ (c : View). Taken mid.origin.request c old.working new.working form owner b) committed
-        (subst (λ (v : View). Taken mid.origin.request mid.committed v new.working form owner b) working (takes (told_mid told))))
+        (subst (λ (v : View). Taken mid.origin.request mid.committed v new.working form owner b) working (takes (told_mid old mid origin told))))
 
     pub copies_from : (s : Spot) (b : ℕ) → Copies mid new s b → Copies old new s b
     copies_from s b copies told = subst (λ (o : Origin). Copied o.request old.committed old.working new.working s.form s.block b) origin
         (subst (λ (c : View). Copied mid.origin.request c old.working new.working s.form s.block b) committed
-        (subst (λ (v : View). Copied mid.origin.request mid.committed v new.working s.form s.block b) working (copies (told_mid told))))
+        (subst (λ (v : View). Copied mid.origin.request mid.committed v new.working s.form s.block b) working (copies (told_mid old mid origin told))))
 
     pub spot_mid : (s : Spot) → HoldsSpot old s → HoldsSpot mid s
     spot_mid s holds told = ap (λ (v : View). is_spot v s.form s.owner s.block) working ∙ holds (told_back told)

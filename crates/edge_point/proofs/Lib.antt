@@ -1,3 +1,5 @@
+pub mod AfterLaws
+pub mod AgainLaws
 pub mod AnswerLaws
 pub mod BlockLaws
 pub mod ChangeLaws
@@ -14,6 +16,7 @@ pub mod PlacedLaws
 pub mod PutLaws
 pub mod ReadLaws
 pub mod RoomLaws
+pub mod SetLaws
 pub mod SparedLaws
 pub mod StandsLaws
 pub mod StepLaws

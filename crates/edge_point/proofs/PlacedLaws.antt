@@ -4,6 +4,7 @@ use Rattle.std.specs.Prelude.{IsTrue, OnOk, Result, Ok, Err}
 use Rattle.std.proofs.lemmas.Bool.{eqb-true}
 use Rattle.edge_base.specs.declared.geometry.Request.{Request}
 use Rattle.edge_base.specs.layout.Places.{inode_place_of, table_start_of}
+use Rattle.edge_base.specs.layout.Bitmap.{used_under}
 use Rattle.edge_base.specs.layout.Bytes.{number_at}
 use Rattle.edge_base.specs.layout.Word.{check_word_of}
 use Rattle.edge_cache.specs.Blocks.{sealed, word_holds_in}
@@ -14,13 +15,18 @@ use Rattle.edge_disk.specs.declared.disk.Disk.{Ghosts}
 use Rattle.edge_image.specs.Image.{is_free}
 use Rattle.edge_nodes.specs.Writing.{IsSealed}
 use Rattle.edge_nodes.proofs.GeometryLaws.{limits}
+use Rattle.edge_store.specs.Calls.{NeverDamaged}
 use Rattle.edge_store.specs.View.{is_number}
+use Rattle.edge_store.specs.declared.fault.StoreFault.{StoreFault}
+use Rattle.edge_store.specs.declared.fault.StoreFault.TheVariants.{Damaged}
 use Rattle.edge_anchor.specs.Anchor.{HasBit}
 use Rattle.edge_anchor.proofs.PlaceLaws.{place_has_bit}
 use Rattle.edge_point.specs.Changing.{Changes, IsBlock, IsPlaceFor, IsPutAt, LiesAt, committed_of, working_of}
+use Rattle.edge_point.specs.Finding.{Sees}
 use Rattle.edge_point.specs.Standing.{IsPoint}
 use Rattle.edge_point.specs.declared.parts.Parts.{Parts}
 use Rattle.edge_point.proofs.ChangeLaws.{passes_point}
+use Rattle.edge_point.proofs.FindLaws.{sees_content, sees_geometry}
 use Rattle.edge_point.proofs.WorkingLaws.{has_working_inode, numbers_stay}
 
 -- ---- results
@@ -28,6 +34,13 @@ use Rattle.edge_point.proofs.WorkingLaws.{has_working_inode, numbers_stay}
 pub ok_map : {T E A B : Type 0} (r : Result T E) → (A → B) → OnOk r A → OnOk r B
 ok_map (Ok v) f h = f h
 ok_map (Err e) f h = tt
+
+-- a fault that is passed on tells no damage where it told none
+pub never_as : {S T : Type 0} (s : Result S StoreFault) (r : Result T StoreFault) (f : StoreFault) → s ≡ Err f → r ≡ Err f → NeverDamaged s → NeverDamaged r
+never_as s r f was is never damage h = never damage (was ∙ ap (λ (x : StoreFault). Err x) (same_fault r f (Damaged damage) is h))
+  where
+    same_fault : {T : Type 0} (r : Result T StoreFault) (a b : StoreFault) → r ≡ Err a → r ≡ Err b → a ≡ b
+    same_fault r a b first second = cc
 
 -- ---- what is written
 
@@ -54,6 +67,9 @@ pub is_place : (r : Request) (n : ℕ) (second : Bool) → IsPlaceFor r n (inode
 is_place r n false = inl refl
 is_place r n true = inr refl
 
+pub at_place : (r : Request) (n b : ℕ) (second : Bool) → b ≡ inode_place_of r n second → (k : ℕ) → IsBlock b k → IsPlaceFor r n k
+at_place r n b second is k e = subst (IsPlaceFor r n) (sym (e ∙ is)) (is_place r n second)
+
 pub other_apart : (r : Request) (n : ℕ) (second : Bool) → inode_place_of r n (not second) ≢ inode_place_of r n second
 other_apart r n false e = omega arith
 other_apart r n true e = omega arith
@@ -62,13 +78,87 @@ pub back_again : (second : Bool) → not (not second) ≡ second
 back_again false = refl
 back_again true = refl
 
+-- where neither is used, the number has no inode
+pub neither : (r : Request) (used : ℕ → Bool) (n : ℕ) (second at : Bool) → used (inode_place_of r n second) ≡ false
+    → used (inode_place_of r n (not second)) ≡ false → used (inode_place_of r n at) ≡ false
+neither r used n false false here there = here
+neither r used n false true here there = there
+neither r used n true false here there = there
+neither r used n true true here there = here
+
+pub both_free : (r : Request) (used : ℕ → Bool) (n : ℕ) → used (inode_place_of r n false) ≡ false → used (inode_place_of r n true) ≡ false → is_free r used n ≡ true
+both_free r used n one two = λ t. not (one t) && not (two t)
+
 -- where one of the two places is not used, they are not both
 pub not_both : (r : Request) (used : ℕ → Bool) (n : ℕ) (second : Bool) → used (inode_place_of r n second) ≡ false
     → used (inode_place_of r n false) ≡ true → used (inode_place_of r n true) ≡ true → ⊥
 not_both r used n false off one two = cc (off, one)
 not_both r used n true off one two = cc (off, two)
 
+-- ---- where it lies in two lists
+
+pub lies_same : (r : Request) (used now : ℕ → Bool) (n : ℕ) (second : Bool) → ((k : ℕ) → now k ≡ used k) → LiesAt r used n second → LiesAt r now n second
+lies_same r used now n second same lies = record {
+  here = same (inode_place_of r n second) ∙ lies.here;
+  not_there = same (inode_place_of r n (not second)) ∙ lies.not_there;
+}
+
+-- a block that is new is not used in the list of the last point
+pub new_unused : (w c : Bool) → (w && not c) ≡ true → c ≡ false
+new_unused true true e = absurd (cc e)
+new_unused true false e = refl
+new_unused false true e = absurd (cc e)
+new_unused false false e = refl
+
+-- and one that is used and not new is
+old_used : (w c : Bool) → w ≡ true → (w && not c) ≡ false → c ≡ true
+old_used true true on e = refl
+old_used true false on e = absurd (cc e)
+old_used false c on e = absurd (cc on)
+
+-- Where the inode lies at a place that the last point uses, that does not use the other: it would be used still.
+pub old_other : (r : Request) (used committed : ℕ → Bool) (n : ℕ) (second : Bool) → LiesAt r used n second
+    → (used (inode_place_of r n second) && not (committed (inode_place_of r n second))) ≡ false
+    → (committed (inode_place_of r n false) ≡ true → committed (inode_place_of r n true) ≡ true → (at : Bool) → used (inode_place_of r n at) ≡ true)
+    → committed (inode_place_of r n (not second)) ≡ false
+old_other r used committed n second lies old both = by_test (committed (inode_place_of r n (not second))) refl
+  where
+    kept : committed (inode_place_of r n second) ≡ true
+    kept = old_used (used (inode_place_of r n second)) (committed (inode_place_of r n second)) lies.here old
+
+    still : (s : Bool) → committed (inode_place_of r n s) ≡ true → committed (inode_place_of r n (not s)) ≡ true → (at : Bool) → used (inode_place_of r n at) ≡ true
+    still false one two = both one two
+    still true one two = both two one
+
+    by_test : (t : Bool) → committed (inode_place_of r n (not second)) ≡ t → committed (inode_place_of r n (not second)) ≡ false
+    by_test true e = absurd (cc (sym (still second kept e (not second)) ∙ lies.not_there))
+    by_test false e = e
+
+-- ---- a number without an inode
+
+pub free_both : (r : Request) (used : ℕ → Bool) (n : ℕ) → is_free r used n ≡ true → (at : Bool) → used (inode_place_of r n at) ≡ false
+free_both r used n free at = by_test (used (inode_place_of r n at)) refl
+  where
+    by_test : (t : Bool) → used (inode_place_of r n at) ≡ t → used (inode_place_of r n at) ≡ false
+    by_test true e = absurd (cc (sym (not_free r used n at e) ∙ free))
+    by_test false e = e
+
+-- The place that the last point does not use: the second exactly where it uses the first.
+pub spare_chosen : (r : Request) (used committed : ℕ → Bool) (n : ℕ) (second : Bool) → second ≡ committed (inode_place_of r n false) → is_free r used n ≡ true
+    → (committed (inode_place_of r n false) ≡ true → committed (inode_place_of r n true) ≡ true → (at : Bool) → used (inode_place_of r n at) ≡ true)
+    → committed (inode_place_of r n second) ≡ false
+spare_chosen r used committed n false is free both = sym is
+spare_chosen r used committed n true is free both = by_test (committed (inode_place_of r n true)) refl
+  where
+    by_test : (t : Bool) → committed (inode_place_of r n true) ≡ t → committed (inode_place_of r n true) ≡ false
+    by_test true e = absurd (cc (sym (free_both r used n free false) ∙ both (sym is) e false))
+    by_test false e = e
+
 module _ {D : Type 0} (g : Ghosts D) where
+  pub sees_committed : {T : Type 0} (p q : Parts D) (r : Result T StoreFault) (sees : Sees g p q r) → IsTrue (g.origin p.cache.disk).shows → (b : ℕ)
+      → committed_of g q b ≡ committed_of g p b
+  sees_committed p q r sees shows b = λ t. used_under (sees_geometry g p q r sees t) (sees.imap t).committed (sees_content g p q r sees shows t) b
+
   -- a change at the places of a number that has an inode before and after it leaves a store
   pub kept_point : (IsSuch : ℕ → Type 0) (p q : Parts D) (n : ℕ) → IsPoint g p → p.live ≡ true → is_number p.master.geometry n ≡ true
       → ((k : ℕ) → IsSuch k → IsPlaceFor p.master.geometry n k) → Changes g IsSuch p q → q.numbers ≡ p.numbers

@@ -53,7 +53,7 @@ module _ {D : Type 0} (g : Ghosts D) (p : Parts D) (is : IsPoint g p) (live : p.
       (first_allocable_of request) (allocable_of request)
       (λ k from below. ap not (sym (next_told g p is live shows k (within (first_allocable_of request) (allocable_of request) k from below)))))
 
-  none_told : (n : ℕ) → is_number request n ≡ true
+  pub none_told : (n : ℕ) → is_number request n ≡ true
       → has_no_inode request (used_under request p.imap.working content) n ≡ is_none ((state_of g p).working.inodes n)
   none_told n number =
       let used = used_under request p.imap.working content in

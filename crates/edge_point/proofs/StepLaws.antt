@@ -62,7 +62,47 @@ pub rest_over : {D : Type 0} (p : Parts D) (m : Bitmaps) (c : Cached D) → Keep
 rest_over p m c =
     record { master = refl; place = refl; root = refl; points = refl; numbers = refl; next = refl; live = refl; torn = refl; damage = refl; block = refl }
 
+-- the same parts with another count of free numbers
+abbrev pub counted : {D : Type 0} → Parts D → ℕ → Parts D
+counted p numbers = record {
+  cache = p.cache;
+  imap = p.imap;
+  master = p.master;
+  place = p.place;
+  root = p.root;
+  points = p.points;
+  numbers = numbers;
+  next = p.next;
+  live = p.live;
+  torn = p.torn;
+  damage = p.damage;
+  block = p.block;
+}
+
 module _ {D : Type 0} (g : Ghosts D) where
+  pub changes_counted : (IsSuch : ℕ → Type 0) (p q : Parts D) (numbers : ℕ) → Changes g IsSuch p q → Changes g IsSuch p (counted q numbers)
+  changes_counted IsSuch p q numbers c = record {
+    master = c.master;
+    place = c.place;
+    root = c.root;
+    points = c.points;
+    live = c.live;
+    torn = c.torn;
+    damage = c.damage;
+    block = c.block;
+    geometry = c.geometry;
+    committed = c.committed;
+    origin = c.origin;
+    spares = c.spares;
+    tied = c.tied;
+    used = c.used;
+    contents = c.contents;
+  }
+
+  pub step_counted : {T : Type 0} (IsSuch : ℕ → Type 0) (p q : Parts D) (numbers : ℕ) (r : Result T StoreFault) → TakesStep g IsSuch p q r
+      → TakesStep g IsSuch p (counted q numbers) r
+  step_counted IsSuch p q numbers r step = record { changes = changes_counted IsSuch p q numbers step.changes; cause = step.cause }
+
   -- ---- no change
 
   pub changes_none : (IsSuch : ℕ → Type 0) (p q : Parts D) → KeepsRest p q → q.imap ≡ p.imap → OnlyReads g p.cache q.cache

@@ -132,7 +132,7 @@ module _ {D : Type 0} (g : Ghosts D) (IsSuch : ℕ → Type 0) (p q : Parts D) (
   -- ---- an inode
 
   module _ (n : ℕ) (number : is_number request n ≡ true) (only : (k : ℕ) → IsSuch k → IsPlaceFor request n k) where
-    other_used : IsTrue (g.origin p.cache.disk).shows → (k : ℕ) (second : Bool) → is_number request k ≡ true → k ≢ n
+    pub other_used : IsTrue (g.origin p.cache.disk).shows → (k : ℕ) (second : Bool) → is_number request k ≡ true → k ≢ n
         → working_of g q (inode_place_of request k second) ≡ working_of g p (inode_place_of request k second)
     other_used shows k second is_one apart = c.used shows (inode_place_of request k second) (place_has_bit request bounds k second is_one)
         (λ such. place_apart request bounds n k second number is_one apart (only _ such))

@@ -1,5 +1,5 @@
 -- What the steps of a call that changes the working view do to the parts of a store.
-use Rattle.std.specs.Prelude.{◌≡◌, ◌⊎◌, ℕ, Bool, true, false, not, List, length, Option, Some, Result, IsTrue}
+use Rattle.std.specs.Prelude.{◌≡◌, ◌≢◌, ◌⊎◌, ℕ, ◌==◌, Bool, true, false, not, List, length, Option, Some, None, Result, IsTrue}
 use Rattle.edge_base.specs.declared.damage.Damage.{Damage}
 use Rattle.edge_base.specs.declared.geometry.Request.{Request}
 use Rattle.edge_base.specs.declared.node.Head.{Head}
@@ -13,6 +13,7 @@ use Rattle.edge_image.specs.Image.{free_inodes_of}
 use Rattle.edge_imap.specs.Bitmaps.{IsTied}
 use Rattle.edge_nodes.specs.Writing.{IsSealed}
 use Rattle.edge_store.specs.Calls.{damage_of}
+use Rattle.edge_store.specs.Effects.{IsLeastFree}
 use Rattle.edge_store.specs.View.{View, is_allocable, is_number, whole, with_inode}
 use Rattle.edge_store.specs.declared.fault.StoreFault.{StoreFault}
 use Rattle.edge_anchor.specs.Anchor.{HasBit}
@@ -41,10 +42,22 @@ pub record IsPutAt (g : Request) (used : ℕ → Bool) (content : ℕ → List �
   pub lies : LiesAt g used n second
   pub node : IsSealed bytes (content (inode_place_of g n second))
 
--- From v to w number n has come to have the inode that this block spells once its check word is put right.
+-- The block spells an inode with this head and these entries, once its check word is put right.
+abbrev pub WillSpell : Request → Head → List ℕ → List ℕ → Type 0
+WillSpell g head entries block = (sequence : ℕ) × ((node : List ℕ) → IsSealed block node → SpellsInode g sequence head entries node)
+
+-- From v to w number n has come to have the inode that this block will spell.
 abbrev pub InodeWritten : Request → View → View → ℕ → List ℕ → Type 0
-InodeWritten g v w n block = (sequence : ℕ) (head : Head) (entries : List ℕ)
-    → ((node : List ℕ) → IsSealed block node → SpellsInode g sequence head entries node) → w ≡ with_inode v n (Some (whole head entries))
+InodeWritten g v w n block = (head : Head) (entries : List ℕ) → WillSpell g head entries block → w ≡ with_inode v n (Some (whole head entries))
+
+-- of a view the least number without an inode, or none where each has one
+abbrev pub IsFirstFree : Request → View → Option ℕ → Type 0
+IsFirstFree g v None = (n : ℕ) → is_number g n ≡ true → v.inodes n ≢ None
+IsFirstFree g v (Some n) = IsLeastFree g v n
+
+-- whether a block is not the first place of a number
+abbrev pub not_first : Request → ℕ → ℕ → Bool
+not_first g n b = not (b == inode_place_of g n false)
 
 module _ {D : Type 0} (g : Ghosts D) where
   -- the working list of the parts of a store, by blocks

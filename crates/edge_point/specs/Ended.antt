@@ -28,6 +28,13 @@ is_used_by Used = true
 is_used_by New = true
 is_used_by AlmostFree = false
 
+-- whether it is used in the list of the last point
+abbrev pub is_committed_by : BlockState → Bool
+is_committed_by Free = false
+is_committed_by Used = true
+is_committed_by New = false
+is_committed_by AlmostFree = true
+
 -- the damage that is kept after a fault
 abbrev pub damage_after : Option Damage → StoreFault → Option Damage
 damage_after kept Device = kept

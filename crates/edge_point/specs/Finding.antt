@@ -5,8 +5,9 @@ use Rattle.edge_base.specs.declared.damage.Damage.{Damage}
 use Rattle.edge_base.specs.declared.geometry.Request.{Request}
 use Rattle.edge_base.specs.declared.node.Head.{Head}
 use Rattle.edge_base.specs.declared.node.NodeFault.{NodeFault}
-use Rattle.edge_base.specs.layout.Bytes.{numbers_at}
+use Rattle.edge_base.specs.layout.Bytes.{number_at, numbers_at}
 use Rattle.edge_base.specs.layout.Places.{entries_of}
+use Rattle.edge_base.specs.layout.Spelling.{SpellsInode}
 use Rattle.edge_base.specs.outside.Faults.{TellsCause}
 use Rattle.edge_disk.specs.declared.disk.Disk.{Ghosts}
 use Rattle.edge_imap.specs.Reading.{OnlyReads}
@@ -53,6 +54,10 @@ TellsInode g place bytes inode (Ok None) = inode ≡ None
 TellsInode g place bytes inode (Ok (Some found)) = (inode ≡ Some (whole found.head (numbers_at 32 (entries_of g) bytes))) × (found.block ≡ place)
 TellsInode g place bytes inode (Err Device) = Unit {0}
 TellsInode g place bytes inode (Err (Damaged damage)) = inode ≡ Some (broken damage)
+
+-- the bytes spell an inode with this head
+abbrev pub SpellsHead : Request → Head → List ℕ → Type 0
+SpellsHead g head bytes = SpellsInode g (number_at 8 8 bytes) head (numbers_at 32 (entries_of g) bytes) bytes
 
 -- the head of an inode that was found
 abbrev pub found_head : Option Found → Option Head

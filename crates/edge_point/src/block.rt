@@ -27,7 +27,7 @@ use edge_nodes::{decode_pointer, entry_of};
 use edge_store::{Spot, StoreFault};
 
 // The first byte of the entries of a pointer node.
-const ENTRIES: u32 = 20;
+pub(crate) const ENTRIES: u32 = 20;
 
 // The fault that tells damage of a block.
 fn damaged(block: u32, kind: DamageKind) -> StoreFault

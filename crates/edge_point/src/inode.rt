@@ -16,6 +16,7 @@ ghost use Rattle.edge_anchor.specs.Anchor.{HasBit};
 ghost use Rattle.edge_point.specs.Ended.{damage_after, ended, is_used_by, of_imap};
 ghost use Rattle.edge_point.specs.Finding.{
   Sees,
+  SpellsHead,
   TellsInode,
   TellsOrFails,
   found_head,
@@ -131,6 +132,7 @@ fn head_in(g: &Geometry, b: u32, bytes: &[u8]) -> Result<Head, StoreFault>
     requires { length bytes.now ≡ g.now.block_size }
     ensures head { result ≡ head_told b (inode_in bytes.now) }
     ensures rules { IfOk result (λ head. is_head head ≡ true) }
+    ensures spelled { IfOk result (λ head. SpellsHead g.now head bytes.now) }
 {
     match decode_inode(g, bytes) {
         Ok(head) => Ok(head),
@@ -151,6 +153,8 @@ fn read_inode<D: Disk>(p: &mut Parts<D>, b: u32) -> Result<Head, StoreFault>
     ensures head { IsTrue (D.origin p.old.cache.disk).shows
         → TellsOrFails (head_told b (inode_in (content_in D.Disk p.old.cache b))) result }
     ensures rules { IfOk result (λ head. is_head head ≡ true) }
+    ensures spelled { IfOk result
+        (λ head. SpellsHead p.old.master.geometry head p.new.block.items) }
 {
     match p.cache.read(b, 0, &mut p.block) {
         Ok(()) => head_in(&p.master.geometry, b, &p.block),
@@ -174,6 +178,8 @@ fn seek<D: Disk>(p: &mut Parts<D>, n: u32) -> Result<Option<Found>, StoreFault>
         p.old.imap.working (content_in D.Disk p.old.cache))
         (content_in D.Disk p.old.cache) n) result }
     ensures rules { IfOk result (λ found. IfSome found (λ f. is_head f.head ≡ true)) }
+    ensures spelled { IfOk result (λ found. IfSome found
+        (λ f. SpellsHead p.old.master.geometry f.head p.new.block.items)) }
 {
     let place = used_place(p, n)?;
     match place {
@@ -218,6 +224,8 @@ pub(crate) fn find<D: Disk>(p: &mut Parts<D>, n: u32) -> Result<Option<Found>, S
         ((state_of D.Disk p.old).places n) p.new.block.items
         ((state_of D.Disk p.old).working.inodes n) result }
     ensures rules { IfOk result (λ found. IfSome found (λ f. is_head f.head ≡ true)) }
+    ensures spelled { IfOk result (λ found. IfSome found
+        (λ f. SpellsHead p.old.master.geometry f.head p.new.block.items)) }
 {
     match seek(p, n) {
         Ok(found) => Ok(found),

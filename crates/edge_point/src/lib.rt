@@ -4,6 +4,7 @@
 
 mod begin;
 mod block;
+mod change;
 mod copied;
 mod free;
 mod inode;
@@ -15,6 +16,7 @@ mod point;
 mod put;
 mod read;
 mod room;
+mod set;
 mod steps;
 mod taken;
 mod transact;

@@ -68,6 +68,7 @@ pub(crate) fn block_state<D: Disk>(p: &mut Parts<D>, b: u32) -> Result<BlockStat
         (used_under p.old.master.geometry p.old.imap.committed (content_in D.Disk p.old.cache) b)
         (used_under p.old.master.geometry p.old.imap.working (content_in D.Disk p.old.cache) b)) }
     ensures rest { KeepsRest p.old p.new }
+    ensures room { p.new.block.items ≡ p.old.block.items }
     ensures imap { p.new.imap ≡ p.old.imap }
     ensures reads { OnlyReads D.Disk p.old.cache p.new.cache }
     ensures cause { TellsWhy D.Disk
@@ -81,7 +82,7 @@ pub(crate) fn block_state<D: Disk>(p: &mut Parts<D>, b: u32) -> Result<BlockStat
 }
 
 // Whether a block of this state is used in the working list alone.
-fn is_new_state(state: BlockState) -> bool
+pub(crate) fn is_new_state(state: BlockState) -> bool
     ensures { result ≡ is_new_by state }
 {
     match state {

@@ -8,6 +8,7 @@ ghost use Rattle.edge_store.specs.Told.{DropsBlock, MeetsBlock, SetsBytes, SetsP
 ghost use Rattle.edge_point.specs.Seen.{state_of};
 ghost use Rattle.edge_point.specs.Standing.{IsPoint};
 
+use crate::block::ENTRIES;
 use crate::free::set_use;
 use crate::look::look;
 use crate::parts::Parts;
@@ -15,9 +16,6 @@ use crate::put::put;
 use byteorder::{ByteOrder, LittleEndian};
 use edge_disk::Disk;
 use edge_store::{Spot, StoreFault};
-
-// The first byte of the entries of a pointer node.
-const ENTRIES: u32 = 20;
 
 /// Writes bytes of a block, which is new, from byte `at` on.
 pub(crate) fn write_block<D: Disk>(

@@ -1,8 +1,9 @@
-use Rattle.std.proofs.Common.{refl, sym, ap, ◌∙◌, arith, length, List, ℕ}
+use Rattle.std.proofs.Common.{refl, sym, ap, ◌∙◌, subst, arith, length, List, ℕ}
+use Rattle.std.specs.Prelude.{IfOk}
 use Rattle.edge_base.specs.layout.Spelling.{inode_in}
 use Rattle.edge_cache.specs.Calls.{content_in}
 use Rattle.edge_store.specs.declared.fault.StoreFault.TheVariants.{Device}
-use Rattle.edge_point.specs.Finding.{head_told}
+use Rattle.edge_point.specs.Finding.{SpellsHead, head_told}
 use Rattle.edge_imap.proofs.BitLaws.{whole_read}
 use Rattle.edge_imap.proofs.CallLaws.{reads_call}
 use Rattle.edge_mount.proofs.WholeLaws.{length-back}
@@ -51,6 +52,10 @@ returns-in-Ok-clause-head g c = λ shows other.
     let len = c.read.ensures.whole shows c.args.b (omega (arith, c.requires.block, c.requires.stands.fits.blocks)) in
     c.head_in.ensures.head ∙ ap (λ (x : List ℕ). head_told c.args.b (inode_in x)) (c.deref.ensures.value ∙ whole_back p.block.len c.read.new.out p.block.items (omega arith) p.block.ok.0
     ∙ c.in-Ok.ensures.bytes shows ∙ whole_read content c.deref_mut.result.now (len ∙ c.requires.stands.fits.size ∙ sym c.requires.stands.block ∙ sym (ap length c.deref_mut.ensures.value)))
+
+pub returns-in-Ok-clause-spelled : goal.returns-in-Ok-clause-spelled
+returns-in-Ok-clause-spelled g c =
+    subst (λ (x : List ℕ). IfOk c.head_in.result (λ head. SpellsHead c.args.p.now.master.geometry head x)) c.deref.ensures.value c.head_in.ensures.spelled
 
 pub returns-in-Err-clause-sees : goal.returns-in-Err-clause-sees
 returns-in-Err-clause-sees g c =

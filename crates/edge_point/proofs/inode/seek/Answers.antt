@@ -4,7 +4,7 @@ use Rattle.edge_base.specs.declared.geometry.Request.{Request}
 use Rattle.edge_base.specs.layout.Bitmap.{used_under}
 use Rattle.edge_base.specs.layout.Spelling.{inode_in}
 use Rattle.edge_cache.specs.Calls.{content_in}
-use Rattle.edge_point.specs.Finding.{TellsOrFails, head_told}
+use Rattle.edge_point.specs.Finding.{SpellsHead, TellsOrFails, head_told}
 use Rattle.edge_point.proofs.FindLaws.{err_is, sees_after, sees_as, sees_content, sees_geometry, sees_passed, sees_point, sees_shows, tells_broken, tells_head, tells_none, tells_two, told_as}
 use Rattle.edge_point.proofs.inode.seek.Goals as goal
 
@@ -76,3 +76,8 @@ returns-in_ok-head-in-Some-clause-tells g c = λ shows tied.
     (told_as _ c.in_ok-place.place (Some b) (c.in_ok-place.ensures.place shows tied) c.in-Some.is)
     (c.in_ok-head-in-Some.ensures.bytes shows_m ∙ ap (λ (x : ℕ → List ℕ). x b) content)
     (subst (λ (x : ℕ → List ℕ). head_told b (inode_in (x b)) ≡ Ok c.in_ok-head-in-Some.head) content (sym (c.in_ok-head-in-Some.ensures.head shows_m (λ h. absurd (cc h)))))
+
+pub returns-in_ok-head-in-Some-clause-spelled : goal.returns-in_ok-head-in-Some-clause-spelled
+returns-in_ok-head-in-Some-clause-spelled g c =
+    subst (λ (x : Request). SpellsHead x c.in_ok-head-in-Some.head c.read_inode.new.p.block.items)
+    (sees_geometry g.D.Disk c.args.p.now c.used_place.new.p c.used_place.result c.used_place.ensures.sees) c.in_ok-head-in-Some.ensures.spelled

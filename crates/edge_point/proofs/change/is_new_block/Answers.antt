@@ -1,0 +1,26 @@
+use Rattle.std.proofs.Common.{◌≡◌, ◌&&◌, not, Bool, Err, sym, ap, ◌∙◌, subst}
+use Rattle.edge_store.specs.declared.fault.StoreFault.{StoreFault}
+use Rattle.edge_store.specs.declared.fault.StoreFault.TheVariants.{Damaged}
+use Rattle.edge_point.specs.Ended.{is_new_by}
+use Rattle.edge_point.specs.Finding.{Sees}
+use Rattle.edge_point.proofs.EndedLaws.{imap_never, new_by}
+use Rattle.edge_point.proofs.FindLaws.{sees_imap, sees_passed}
+use Rattle.edge_point.proofs.change.is_new_block.Goals as goal
+
+pub returns-in-Ok-clause-sees : goal.returns-in-Ok-clause-sees
+returns-in-Ok-clause-sees g c =
+    let all = c.block_state.ensures in
+    sees_passed g.D.Disk c.args.p.now c.block_state.new.p _ all.rest all.imap all.reads all.cause.later c.in-Ok.ensures.cause.passed
+
+pub returns-in-Ok-clause-is_new : goal.returns-in-Ok-clause-is_new
+returns-in-Ok-clause-is_new g c = λ shows. c.is_new_state.ensures ∙ ap is_new_by (c.in-Ok.ensures.state shows) ∙ new_by _ _
+
+pub returns-in-Err-clause-sees : goal.returns-in-Err-clause-sees
+returns-in-Err-clause-sees g c =
+    let all = c.block_state.ensures in
+    subst (λ (f : StoreFault). Sees {T = Bool} g.D.Disk c.args.p.now c.block_state.new.p (Err f)) (sym c.fault_of.ensures)
+    (sees_imap g.D.Disk _ c.args.p.now c.block_state.new.p c.block_state.result c.in-Err.fault all.rest all.imap all.reads all.cause c.in-Err.is)
+
+pub returns-in-Err-clause-sound : goal.returns-in-Err-clause-sound
+returns-in-Err-clause-sound g c = λ shows tied x h.
+    imap_never c.block_state.result c.in-Err.fault x c.in-Err.is (c.block_state.ensures.sound shows tied) (sym c.fault_of.ensures ∙ cc h)
