@@ -11,10 +11,11 @@ use Rattle.edge_base.specs.declared.form.Form.TheVariants.{Plain}
 use Rattle.edge_base.specs.declared.geometry.Request.{Request}
 use Rattle.edge_base.specs.layout.Places.{entries_of, pointers_of, max_blocks_of, max_size_of}
 use Rattle.edge_base.specs.tree.Nodes.{file, indices_of, padded, block_of}
-use Rattle.edge_base.specs.tree.Positions.{has, data_at, positions_of}
+use Rattle.edge_base.specs.tree.Positions.{Position, has, data_at, positions_of}
+use Rattle.edge_base.proofs.ChainLaws.{has-positions_of-number}
 use Rattle.edge_base.specs.tree.Slots.{pieces}
 use Rattle.edge_store.specs.Placed.{block_at, data_block, HasPlaces, HoldsNode}
-use Rattle.edge_store.specs.View.{View, Block, IsView, bytes, content, content_at, bytes_in, is_owned_by, is_whole}
+use Rattle.edge_store.specs.View.{View, Block, IsView, bytes, content, content_at, bytes_in, is_owned_by, is_spot, is_whole}
 use Rattle.edge_store.proofs.ViewLaws.{unused_zero}
 use Rattle.edge_shape.specs.Shape.{before}
 use Rattle.edge_file.specs.Bytes.{byte_of, bytes_at, with_bytes, blocks_under}
@@ -22,6 +23,8 @@ use Rattle.edge_file.specs.Rewritten.{IsWritten}
 use Rattle.edge_file.specs.Shortened.{IsShortened}
 use Rattle.edge_file.proofs.ByteLaws.{byte_in, bytes-get, length-bytes}
 use Rattle.edge_file.proofs.BlockLaws.{positions_first_of}
+use Rattle.edge_file.specs.Writing.{SameBlocks}
+use Rattle.edge_file.proofs.HeadLaws.{here}
 use Rattle.edge_file.proofs.JoinLaws.{place_absent, place_in_range}
 use Rattle.edge_file.proofs.RangeLaws.{lists, positions_alike}
 
@@ -122,3 +125,33 @@ module _ (g : Request) (v : View) (n : ℕ) (text : List ℕ) (present : List Bo
 
       now : (k : ℕ) → k < max_size_of g → byte_of g w n k ≡ slice_index after k
       now k low = short.bytes k low ∙ ap (λ (x : ℕ). cond (nat_lt k size) x 0) (file_byte k low) ∙ sym (put k)
+
+-- ---- where no block changes
+
+padded_alike : (g : Request) (text after : List ℕ) (x : ℕ) → ((k : ℕ) → slice_index after k ≡ slice_index text k) → padded g (take g.block_size (drop x text)) ≡ padded g (take g.block_size (drop x after))
+padded_alike g text after x same = same_number_lists (padded g (take g.block_size (drop x text))) (padded g (take g.block_size (drop x after)))
+    (length-padded g text x ∙ sym (length-padded g after x))
+    (λ r in_list.
+    let low_r : r < g.block_size = subst (λ (m : ℕ). r < m) (length-padded g text x) in_list in
+    padded_get g text x r low_r ∙ sym (same (x + r)) ∙ sym (padded_get g after x r low_r))
+
+pub file_lengthened : (g : Request) (c v w : View) (n : ℕ) (text after : List ℕ) (present flags : List Bool) → HoldsNode g v n (file text present) → SameBlocks v w n
+    → ((k : ℕ) → slice_index after k ≡ slice_index text k) → ((i : ℕ) → lists (indices_of g (file text present)) i ≡ lists (indices_of g (file after flags)) i) → HoldsNode g w n (file after flags)
+file_lengthened g c v w n text after present flags holds kept same blocks = record {
+  places = record {
+    places = λ p number low. subst (λ (t : Bool). (block_at g w p ≢ 0) ↔ (t ≡ true)) (alike p)
+        (subst (λ (b : ℕ). (b ≢ 0) ↔ (has (positions_of g n (indices_of g (file text present))) p ≡ true)) (sym (stays p number)) (holds.places.places p number low));
+    spots = λ p h.
+        ap (λ (b : ℕ). is_spot w p.form n b) (stays p (has-positions_of-number g n (indices_of g (file after flags)) p h))
+        ∙ ap (λ bs. is_owned_by n (content p.form (bs (block_at g v p)))) kept.blocks ∙ holds.places.spots p (alike p ∙ h);
+  };
+  contents = λ i there.
+      ap (λ (b : ℕ). content_at w Plain b) (stays (data_at n i) refl) ∙ ap (λ bs. content Plain (bs (data_block g v n i))) kept.blocks
+      ∙ holds.contents i (blocks i ∙ there) ∙ ap bytes (padded_alike g text after (i * g.block_size) same);
+}
+  where
+    alike : (p : Position) → has (positions_of g n (indices_of g (file text present))) p ≡ has (positions_of g n (indices_of g (file after flags))) p
+    alike = positions_alike g n (indices_of g (file text present)) (indices_of g (file after flags)) blocks
+
+    stays : (p : Position) → p.number ≡ n → block_at g w p ≡ block_at g v p
+    stays p number = here g c v v w n kept p number

@@ -21,7 +21,7 @@ use Rattle.edge_file.specs.Shortened.{block_of_rest, IsTrimmed, IsShortened}
 use Rattle.edge_file.specs.Writing.{SameBlocks, WritesBytes}
 
 module _ (g : Request) (c v m w : View) (n : ℕ) (same : SameBlocks m w n) where
-  here : (p : Position) → p.number ≡ n → block_at g w p ≡ block_at g m p
+  pub here : (p : Position) → p.number ≡ n → block_at g w p ≡ block_at g m p
   here p number = block_at-kept g m w p (record {
     entries = subst (λ (k : ℕ). entries_of_inode (w.inodes k) ≡ entries_of_inode (m.inodes k)) (sym number) same.entries;
     nodes = λ q on there. ap (λ bs. content q.form (bs (block_at g m q))) same.blocks;

@@ -8,6 +8,7 @@ pub mod LoopLaws
 pub mod StepLaws
 pub mod HeadLaws
 pub mod FileLaws
+pub mod DirectoryLaws
 pub mod GrowLaws
 pub mod ChangeLaws
 pub mod TrimLaws

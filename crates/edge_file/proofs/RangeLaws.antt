@@ -57,6 +57,15 @@ rows_apart i j size below =
     let split : (j + 1) * size ≡ j * size + size = grind arith in
     omega arith
 
+pub lists_range : (m i : ℕ) → lists (range_with_len 0 m) i ≡ nat_lt i m
+lists_range m i = (λ t. list_any (λ k. swap k i t) (range_with_len 0 m)) ∙ is_member-range 0 m i ∙ from_zero m i
+  where
+    swap : (k i : ℕ) → (k == i) ≡ (i == k)
+    swap k i = grind (arith, nat_tests)
+
+    from_zero : (m i : ℕ) → (nat_le 0 i && nat_lt i (0 + m)) ≡ nat_lt i m
+    from_zero m i = grind (arith, nat_tests)
+
 -- ---- the data blocks of a range
 
 pub lists_under : (g : Request) (at len i : ℕ) → lists (blocks_under g at len) i ≡ (nat_lt i (max_blocks_of g) && is_under g at len i)
@@ -64,7 +73,7 @@ unfolding blocks_under
 lists_under g at len i =
     any-filter (is_under g at len) (λ k. k == i) (range_with_len 0 (max_blocks_of g))
     ∙ any_here (is_under g at len) i (range_with_len 0 (max_blocks_of g))
-    ∙ ap (λ t. t && is_under g at len i) (member (max_blocks_of g))
+    ∙ ap (λ t. t && is_under g at len i) (lists_range (max_blocks_of g) i)
   where
     any_here : (test : ℕ → Bool) (i : ℕ) (xs : List ℕ) → list_any (λ k. test k && (k == i)) xs ≡ (list_any (λ k. k == i) xs && test i)
     any_here test i xs = same_test (list_any (λ k. test k && (k == i)) xs) (list_any (λ k. k == i) xs && test i)
@@ -75,15 +84,6 @@ lists_under g at len i =
         (λ h.
         let p = and_parts (list_any (λ k. k == i) xs) (test i) h in
         any_of (λ k. test k && (k == i)) xs i p.0 (and_from (test i) (i == i) p.1 (eq-eqb i i refl)))
-
-    member : (m : ℕ) → list_any (λ k. k == i) (range_with_len 0 m) ≡ nat_lt i m
-    member m = (λ t. list_any (λ k. swap k i t) (range_with_len 0 m)) ∙ is_member-range 0 m i ∙ from_zero m
-      where
-        swap : (k i : ℕ) → (k == i) ≡ (i == k)
-        swap k i = grind (arith, nat_tests)
-
-        from_zero : (m : ℕ) → (nat_le 0 i && nat_lt i (0 + m)) ≡ nat_lt i m
-        from_zero m = grind (arith, nat_tests)
 
 -- one range behind another
 pub under_both : (g : Request) (at len more i : ℕ) → 0 < g.block_size → (is_under g (at + len) more i || is_under g at len i) ≡ is_under g at (len + more) i

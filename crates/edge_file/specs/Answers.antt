@@ -1,5 +1,5 @@
 -- What calls over the bytes of a node answer where the views are told. s is a store as a call begins.
-use Rattle.std.specs.Prelude.{◌≡◌, ℕ, ◌<◌, ◌-◌, ◌++◌, true, min, List, length, drop, Some, Result}
+use Rattle.std.specs.Prelude.{◌≡◌, ℕ, ◌<◌, ◌≤◌, ◌-◌, ◌++◌, true, min, List, length, drop, Some, Result}
 use Rattle.edge_base.specs.declared.node.Head.{Head}
 use Rattle.edge_base.specs.layout.Places.{max_size_of}
 use Rattle.edge_store.specs.declared.fault.StoreFault.{StoreFault}
@@ -32,6 +32,11 @@ ReadsInto s n at old new count = Told s → new ≡ bytes_at s.origin.request s.
 -- node n can be read, and its size is greater than that of any file
 abbrev pub IsTooGreat : StoreState → ℕ → Type 0
 IsTooGreat s n = Told s → (head : Head) × (head_of_inode (s.working.inodes n) ≡ Some head) × (max_size_of s.origin.request < head.size)
+
+-- nothing is told of a node whose head can be read and has at most the greatest size
+abbrev pub NeverOnHead : {T : Type 0} → StoreState → ℕ → Result T StoreFault → Type 0
+NeverOnHead s n result = Told s → (head : Head) → head_of_inode (s.working.inodes n) ≡ Some head → head.size ≤ max_size_of s.origin.request
+    → NeverDamaged result
 
 -- nothing is told of an inode that can be read
 abbrev pub NeverOnWhole : {T : Type 0} → StoreState → ℕ → Result T StoreFault → Type 0

@@ -1,10 +1,11 @@
 -- The bytes of a node: those of its data blocks, one block behind the other.
-use Rattle.std.specs.Prelude.{ℕ, ◌+◌, ◌*◌, ◌-◌, ◌/◌, ◌%◌, ◌&&◌, Bool, nat_le, nat_lt, if◌then◌else◌, List, length, map, filter, slice_index, Option, Some, None}
+use Rattle.std.specs.Prelude.{ℕ, ◌+◌, ◌*◌, ◌-◌, ◌/◌, ◌%◌, ◌&&◌, Bool, nat_le, nat_lt, if◌then◌else◌, List, length, map, filter, flat_map, slice_index, Option, Some, None}
 use Rattle.std.specs.List.{range_with_len}
 use Rattle.edge_base.specs.declared.form.Form.TheVariants.{Plain}
 use Rattle.edge_base.specs.declared.geometry.Request.{Request}
 use Rattle.edge_base.specs.declared.node.Head.{Head}
 use Rattle.edge_base.specs.layout.Places.{max_blocks_of}
+use Rattle.edge_base.specs.tree.Nodes.{Node, file, directory, indices_of, block_of}
 use Rattle.edge_store.specs.Placed.{data_block}
 use Rattle.edge_store.specs.View.{View, bytes_in, content_at, head_of_inode}
 
@@ -19,6 +20,11 @@ bytes_at g v n at len = map (byte_of g v n) (range_with_len at len)
 -- bytes, told by their places, with others from a place on
 abbrev pub with_bytes : (ℕ → ℕ) → ℕ → List ℕ → ℕ → ℕ
 with_bytes old at new k = if nat_le at k && nat_lt k (at + length new) then slice_index new (k - at) else old k
+
+-- the byte list of a node without blocks: a file's content, or the blocks of a directory, one behind the other
+abbrev pub bytes_of : Request → Node → List ℕ
+bytes_of g (file content present) = content
+bytes_of g (directory slots parent) = flat_map (block_of g (directory slots parent)) (indices_of g (directory slots parent))
 
 -- ---- sizes
 

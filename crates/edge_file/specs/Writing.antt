@@ -83,6 +83,11 @@ ShortensTo old new n size = Told old → size < size_at old.working n → Shorte
 abbrev pub LengthensTo : StoreState → StoreState → ℕ → ℕ → Type 0
 LengthensTo old new n size = Told old → size_at old.working n ≤ size → SameBlocks old.working new.working n
 
+-- Where node n had no more bytes, its head is set to one with this size, as it was in all else, and nothing else changes.
+abbrev pub LengthensHead : StoreState → StoreState → ℕ → ℕ → Type 0
+LengthensHead old new n size = Told old → (head : Head) → head_of_inode (old.working.inodes n) ≡ Some head → head.size ≤ size
+    → HeadSet old.working new.working n (record head { size = size })
+
 -- a head with this size
 abbrev pub sized : Option Head → ℕ → Option Head
 sized (Some head) size = Some (record head { size = size })

@@ -5,7 +5,7 @@ ghost use Rattle.edge_store.specs.Calls.{Called, KeepsPoint, KeepsWorking, Reads
 ghost use Rattle.edge_store.specs.State.{Told, IsLive, IsNumber, HasInode};
 ghost use Rattle.edge_store.specs.View.{is_head};
 ghost use Rattle.edge_tree.specs.Answers.{TellsWhatIs, NeverTangled};
-ghost use Rattle.edge_file.specs.Answers.{NeverOnSized, HasHead, IsTooGreat};
+ghost use Rattle.edge_file.specs.Answers.{NeverOnHead, NeverOnSized, HasHead, IsTooGreat};
 
 use edge_base::{Damage, DamageKind, Head};
 use edge_store::{Store, StoreFault};
@@ -63,6 +63,7 @@ pub fn sized_head<S: Store>(s: &mut S, n: u32) -> Result<Head, StoreFault>
     ensures damage { TellsWhatIs (S.state s.old) (S.state s.new) result }
     ensures untangled { NeverTangled (S.state s.old) result }
     ensures undamaged { NeverOnSized (S.state s.old) n result }
+    ensures undamaged_head { NeverOnHead (S.state s.old) n result }
     ensures head { IfOk result (HasHead (S.state s.old) n) }
     ensures rules { IfOk result (λ head. is_head head ≡ true) }
     ensures size { IfOk result (λ head.

@@ -4,21 +4,23 @@ ghost use Rattle.std.specs.Prelude.{◌≡◌, ◌<◌, ◌≤◌, ◌+◌, ◌/
 ghost use Rattle.std.specs.List.{list_any};
 ghost use Rattle.edge_base.specs.declared.geometry.Request.{Request};
 ghost use Rattle.edge_base.specs.layout.Places.{IsGeometry, max_size_of};
-ghost use Rattle.edge_base.specs.tree.Nodes.{file, indices_of};
+ghost use Rattle.edge_base.specs.tree.Nodes.{file, directory, indices_of, size_of};
 ghost use Rattle.edge_base.specs.declared.form.Form.TheVariants.{Plain};
-ghost use Rattle.edge_base.specs.tree.Slots.{pieces};
+ghost use Rattle.edge_base.specs.tree.Slots.{Slots, pieces};
 ghost use Rattle.edge_store.specs.Changed.{has_index, NodeChanged, NodeDirtied};
 ghost use Rattle.edge_store.specs.Placed.{data_block, HasPlaces, HoldsNode};
 ghost use Rattle.edge_store.specs.View.{View, IsView, content_at, is_whole};
 ghost use Rattle.edge_shape.specs.Shape.{HasShape, before};
-ghost use Rattle.edge_file.specs.Bytes.{byte_of, bytes_at, with_bytes, blocks_under};
+ghost use Rattle.edge_file.specs.Bytes.{byte_of, bytes_at, bytes_of, with_bytes, blocks_under};
 ghost use Rattle.edge_file.specs.Rewritten.{IsWritten};
 ghost use Rattle.edge_file.specs.Shortened.{block_of_rest, IsShortened};
+ghost use Rattle.edge_file.specs.Writing.{SameBlocks};
 
 /// Where a view holds a file whose absent blocks are zeros, the bytes of its blocks are those of
 /// its content, and zeros behind them. After a write it holds the file with the new bytes at their
 /// place, and the data blocks that they need besides. Made shorter it holds the file that ends
-/// there.
+/// there; made longer, the file with zeros behind its content and no data block more. The bytes of
+/// a directory are those of its blocks, one behind the other.
 pub fn files_are_held_by_their_bytes()
     ensures byte { (g : Request) (v : View) (n k : ℕ) (text : List ℕ) (present : List Bool)
         → IsGeometry g → IsView g v → is_whole (v.inodes n) ≡ true
@@ -58,6 +60,21 @@ pub fn files_are_held_by_their_bytes()
         (before (pieces g.block_size size) (indices_of g (file text present)))
         ≡ list_any (λ j. j == i) (indices_of g (file after flags)))
         → HoldsNode g w n (file after flags) }
+    ensures lengthened { (g : Request) (v w : View) (n : ℕ) (text after : List ℕ)
+        (present flags : List Bool) → HoldsNode g v n (file text present) → SameBlocks v w n
+        → ((k : ℕ) → slice_index after k ≡ slice_index text k)
+        → ((i : ℕ) → list_any (λ j. j == i) (indices_of g (file text present))
+        ≡ list_any (λ j. j == i) (indices_of g (file after flags)))
+        → HoldsNode g w n (file after flags) }
+    ensures directory { (g : Request) (v : View) (n k : ℕ) (slots : Slots) (parent : ℕ)
+        → IsGeometry g → IsView g v → is_whole (v.inodes n) ≡ true
+        → HoldsNode g v n (directory slots parent) → k < max_size_of g
+        → byte_of g v n k ≡ slice_index (bytes_of g (directory slots parent)) k }
+    ensures directory_run { (g : Request) (v : View) (n at len : ℕ) (slots : Slots) (parent : ℕ)
+        → IsGeometry g → IsView g v → is_whole (v.inodes n) ≡ true
+        → HoldsNode g v n (directory slots parent)
+        → at + len ≤ size_of g (directory slots parent)
+        → bytes_at g v n at len ≡ take len (drop at (bytes_of g (directory slots parent))) }
 {}
 
 /// A write and one behind it are one write of both.

@@ -4,9 +4,10 @@ ghost use Rattle.edge_store.specs.Calls.{Called, KeepsPoint, KeepsPlacesBut};
 ghost use Rattle.edge_store.specs.State.{IsLive, IsNumber, HasInode};
 ghost use Rattle.edge_store.specs.View.{is_head};
 ghost use Rattle.edge_tree.specs.Answers.{TellsWhatIs, IsReadable};
-ghost use Rattle.edge_tree.specs.Own.{UndamagedIf, IsNodeShaped, KeepsHeads};
+ghost use Rattle.edge_tree.specs.Own.{UntangledIf, UndamagedIf, IsNodeShaped, KeepsHeads};
 ghost use Rattle.edge_file.specs.Answers.{HasHead};
-ghost use Rattle.edge_file.specs.Writing.{RoomToShorten, RoomForSize, IsNodeSized, ClearsRest, StaysWithoutRest, Shortens, ShortensTo, LengthensTo, SetsSize, KeepsInodesBut};
+ghost use Rattle.edge_file.specs.Bytes.{size_at};
+ghost use Rattle.edge_file.specs.Writing.{RoomToShorten, RoomForSize, IsNodeSized, ClearsRest, StaysWithoutRest, Shortens, ShortensTo, LengthensTo, LengthensHead, SetsSize, KeepsInodesBut};
 
 use crate::head::sized_head;
 use crate::piece::{BLOCK_MOST, block_count, rest_behind};
@@ -106,6 +107,8 @@ pub fn set_size<S: Store>(s: &mut S, n: u32, size: u64) -> Result<(), StoreFault
     ensures point { KeepsPoint (S.state s.old) (S.state s.new) }
     ensures places { OnOk result (KeepsPlacesBut (S.state s.old) (S.state s.new) n) }
     ensures damage { TellsWhatIs (S.state s.old) (S.state s.new) result }
+    ensures untangled { UntangledIf (S.state s.old) (size_at (S.state s.old).working n ≤ size)
+        result }
     ensures undamaged { UndamagedIf (S.state s.old) (IsNodeSized (S.state s.old) n)
         (RoomForSize (S.state s.old) n size) result }
     ensures inodes { OnOk result (KeepsInodesBut (S.state s.old) (S.state s.new) n) }
@@ -113,6 +116,7 @@ pub fn set_size<S: Store>(s: &mut S, n: u32, size: u64) -> Result<(), StoreFault
     ensures sized { OnOk result (SetsSize (S.state s.old) (S.state s.new) n size) }
     ensures shortened { OnOk result (ShortensTo (S.state s.old) (S.state s.new) n size) }
     ensures lengthened { OnOk result (LengthensTo (S.state s.old) (S.state s.new) n size) }
+    ensures set { OnOk result (LengthensHead (S.state s.old) (S.state s.new) n size) }
 {
     let head = sized_head(s, n)?;
     if size < head.size {

@@ -4,7 +4,7 @@ ghost use Rattle.edge_store.specs.Calls.{Called, KeepsPoint, KeepsPlacesBut};
 ghost use Rattle.edge_store.specs.State.{IsLive, IsNumber, HasInode};
 ghost use Rattle.edge_store.specs.View.{is_head};
 ghost use Rattle.edge_tree.specs.Answers.{TellsWhatIs, NeverTangled, IsReadable};
-ghost use Rattle.edge_file.specs.Answers.{NeverOnSized, NeverOnWhole, HasHead};
+ghost use Rattle.edge_file.specs.Answers.{NeverOnHead, NeverOnSized, NeverOnWhole, HasHead};
 ghost use Rattle.edge_file.specs.Writing.{GrowsTo, GrowsHead, KeepsBlocks};
 
 use crate::head::sized_head;
@@ -48,6 +48,7 @@ pub fn grow<S: Store>(s: &mut S, n: u32, size: u64) -> Result<(), StoreFault>
     ensures damage { TellsWhatIs (S.state s.old) (S.state s.new) result }
     ensures untangled { NeverTangled (S.state s.old) result }
     ensures undamaged { NeverOnSized (S.state s.old) n result }
+    ensures undamaged_head { NeverOnHead (S.state s.old) n result }
     ensures readable { OnOk result (IsReadable (S.state s.new) n) }
     ensures set { OnOk result (GrowsHead (S.state s.old) (S.state s.new) n size) }
     ensures grown { OnOk result (GrowsTo (S.state s.old) (S.state s.new) n size) }

@@ -114,12 +114,12 @@ pub(crate) fn fill_bytes<S: Store>(
 
 /// Writes bytes of a file or a directory from byte `at` on. Where they end past its end, it ends
 /// there then; what lies between stays what it was, which is zeros in a file that keeps its rules.
-/// The size is set when the bytes are written. Where there are no bytes, the node is as long as the
-/// place all the same.
+/// Where there are no bytes, the node is as long as the place all the same.
 ///
-/// Each data block is looked up once, and none is read. It takes as many free blocks as positions
-/// on the chains of these data blocks are not new. Where fewer are free, the store ends with a
-/// tangled node.
+/// Each data block is looked up once. No bytes are asked for, but a block that the last point uses
+/// is copied, also where all of it is written. It takes as many free blocks as positions on the
+/// chains of these data blocks are not new. Where fewer are free, the store ends with a tangled
+/// node.
 pub fn write_at<S: Store>(s: &mut S, n: u32, at: u64, bytes: &[u8]) -> Result<(), StoreFault>
     requires live { IsLive (S.state s.old) }
     requires number { IsNumber (S.state s.old) n }

@@ -1,10 +1,12 @@
 use Rattle.std.proofs.Common.{◌≡◌, ◌≤◌, ◌∙◌, ap, subst, arith}
 use Rattle.edge_base.specs.outside.Below.{Origin}
+use Rattle.edge_store.specs.Effects.{HeadSet}
 use Rattle.edge_store.specs.State.{Told}
-use Rattle.edge_store.specs.View.{View}
+use Rattle.edge_store.specs.View.{View, head_of_inode}
 use Rattle.edge_file.specs.Bytes.{size_at, size_in}
 use Rattle.edge_file.specs.Writing.{SameBlocks}
 use Rattle.edge_file.proofs.AnswerLaws.{on_ok_map}
+use Rattle.edge_file.proofs.GrowLaws.{grows_no_less}
 use Rattle.edge_file.proofs.shorten.set_size.Goals as goal
 
 pub returns-then-size-head-clause-lengthened : goal.returns-then-size-head-clause-lengthened
@@ -31,3 +33,31 @@ returns-clause-inodes g c =
     let told_mid : Told (g.S.Store.state c.sized_head.new.s) = ap (λ (o : Origin). o.tells) first.called.origin ∙ told in
     (blocks told_mid).others x apart ∙ ap (λ (v : View). v.inodes x) first.reads.working)
     c.reach.ensures.blocks
+
+pub returns-then-size-head-clause-untangled : goal.returns-then-size-head-clause-untangled
+returns-then-size-head-clause-untangled g c told low =
+    let is : size_at (g.S.Store.state c.args.s.now).working c.args.n ≡ c.in_ok-head.head.size = ap size_in (c.in_ok-head.ensures.head told) in
+    let less : size_at (g.S.Store.state c.args.s.now).working c.args.n ≤ c.args.size = low in
+    absurd (omega (arith, is, less))
+
+pub returns-then-size-head-clause-set : goal.returns-then-size-head-clause-set
+returns-then-size-head-clause-set g c =
+    on_ok_map c.shorten.result (λ ok short told head was low.
+    let old = g.S.Store.state c.args.s.now in
+    let is : size_at old.working c.args.n ≡ c.in_ok-head.head.size = ap size_in (c.in_ok-head.ensures.head told) in
+    let same : size_at old.working c.args.n ≡ head.size = ap size_in was in
+    let less : head.size ≤ c.args.size = low in
+    absurd (omega (arith, is, same, less)))
+    c.shorten.ensures.sized
+
+pub returns-clause-set : goal.returns-clause-set
+returns-clause-set g c =
+    on_ok_map c.reach.result (λ ok grows told head was low.
+    let first = c.in_ok-head.ensures in
+    let mid = g.S.Store.state c.sized_head.new.s in
+    let new = g.S.Store.state c.reach.new.s in
+    let told_mid : Told mid = ap (λ (o : Origin). o.tells) first.called.origin ∙ told in
+    let here = ap (λ (v : View). head_of_inode (v.inodes c.args.n)) first.reads.working ∙ was in
+    subst (λ (v : View). HeadSet v new.working c.args.n (record head { size = c.args.size })) first.reads.working
+    (grows_no_less mid.working new.working c.args.n c.args.size (grows told_mid) head here low))
+    c.reach.ensures.set
