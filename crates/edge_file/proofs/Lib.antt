@@ -6,6 +6,7 @@ pub mod WriteLaws
 pub mod AnswerLaws
 pub mod LoopLaws
 pub mod StepLaws
+pub mod WholeLaws
 pub mod HeadLaws
 pub mod FileLaws
 pub mod DirectoryLaws

@@ -11,10 +11,40 @@ use crate::piece::{BLOCK_MOST, end_of, first_piece};
 use crate::size::reach;
 use edge_base::Form;
 use edge_store::{Spot, Store, StoreFault};
-use edge_tree::make_writable;
+use edge_tree::{make_overwritable, make_writable};
+
+/// Writes a whole data block. What it held is not read: a block of the last point is left to it,
+/// and an empty one takes its place.
+fn overwrite_block<S: Store>(s: &mut S, n: u32, i: u32, bytes: &[u8]) -> Result<(), StoreFault>
+    requires live { IsLive (S.state s.old) }
+    requires number { IsNumber (S.state s.old) n }
+    requires there { HasInode (S.state s.old) n }
+    requires index { i < max_blocks_of (S.state s.old).origin.request }
+    requires some { 0 < length bytes.now }
+    requires whole { length bytes.now ≡ (S.state s.old).origin.request.block_size }
+    ensures called { Called (S.state s.old) (S.state s.new) result }
+    ensures point { KeepsPoint (S.state s.old) (S.state s.new) }
+    ensures places { OnOk result (KeepsPlacesBut (S.state s.old) (S.state s.new) n) }
+    ensures damage { TellsWhatIs (S.state s.old) (S.state s.new) result }
+    ensures undamaged { UndamagedIf (S.state s.old) (IsNodeShaped (S.state s.old) n)
+        (RoomForBytes (S.state s.old) n
+        (i * (S.state s.old).origin.request.block_size) (length bytes.now)) result }
+    ensures heads { OnOk result (KeepsHeads (S.state s.old) (S.state s.new) n) }
+    ensures readable { OnOk result (IsReadable (S.state s.new) n) }
+    ensures written { OnOk result (WritesBytes (S.state s.old) (S.state s.new) n
+        (i * (S.state s.old).origin.request.block_size) bytes.now) }
+{
+    let block = make_overwritable(s, n, i)?;
+    let data = Spot {
+        block,
+        form: Form::Plain,
+        owner: n,
+    };
+    s.write_block(data, 0, bytes)
+}
 
 /// Writes bytes of a data block from byte `start` on. It is made writable first, and with nothing
-/// in it where it was absent.
+/// in it where it was absent; one that is written whole is made so without reading it.
 fn write_in_block<S: Store>(
     s: &mut S,
     n: u32,
@@ -40,6 +70,9 @@ fn write_in_block<S: Store>(
     ensures written { OnOk result (WritesBytes (S.state s.old) (S.state s.new) n
         (i * (S.state s.old).origin.request.block_size + start) bytes.now) }
 {
+    if bytes.len() == s.geometry().request().block_size as usize {
+        return overwrite_block(s, n, i, bytes);
+    }
     let block = make_writable(s, n, i)?;
     let data = Spot {
         block,
@@ -116,8 +149,8 @@ pub(crate) fn fill_bytes<S: Store>(
 /// there then; what lies between stays what it was, which is zeros in a file that keeps its rules.
 /// Where there are no bytes, the node is as long as the place all the same.
 ///
-/// Each data block is looked up once. No bytes are asked for, but a block that the last point uses
-/// is copied, also where all of it is written. It takes as many free blocks as positions on the
+/// Each data block is looked up once. One that the last point uses is copied where a part of it is
+/// written, and not read where all of it is. It takes as many free blocks as positions on the
 /// chains of these data blocks are not new. Where fewer are free, the store ends with a tangled
 /// node.
 pub fn write_at<S: Store>(s: &mut S, n: u32, at: u64, bytes: &[u8]) -> Result<(), StoreFault>

@@ -19,10 +19,10 @@ use Rattle.edge_moves.proofs.FactLaws.{set_here, full_node}
 use Rattle.edge_moves.proofs.SpentLaws.{entry_free, entry_pointer, entry_no_more}
 use Rattle.edge_moves.proofs.StepLaws.{not_zero, pointer_is}
 
-new_of : (c w : View) (b : ℕ) → is_used w b ≡ true → c.blocks b ≡ None → is_new c w b ≡ true
+pub new_of : (c w : View) (b : ℕ) → is_used w b ≡ true → c.blocks b ≡ None → is_new c w b ≡ true
 new_of c w b used none = λ i. used i && not (is_some (none i))
 
-committed_of : (c v : View) (b : ℕ) → is_new c v b ≡ false → is_used v b ≡ true → is_used c b ≡ true
+pub committed_of : (c v : View) (b : ℕ) → is_new c v b ≡ false → is_used v b ≡ true → is_used c b ≡ true
 committed_of c v b h used = by (is_used v b) (is_used c b) h used
   where
     by : (u t : Bool) → (u && not t) ≡ false → u ≡ true → t ≡ true

@@ -13,7 +13,7 @@ use Rattle.edge_store.specs.Placed.{entry_at, pointer_at, data_block, HasPlaces,
 use Rattle.edge_store.specs.State.{StoreState, Told}
 use Rattle.edge_store.specs.View.{entries_of_inode, is_spot, is_whole, free_now}
 use Rattle.edge_moves.specs.Sound.{IsSound, IsApart}
-use Rattle.edge_moves.specs.Renewal.{cost, IsRenewed, EntryRenewed, PointerRenewed, UnderRenewed, WayRenewed, SameHeads}
+use Rattle.edge_moves.specs.Renewal.{cost, EntryRenewed, PointerRenewed, SameHeads}
 use Rattle.edge_moves.specs.Writable.{IsMadeWritable, fresh_on_chain}
 use Rattle.edge_tree.specs.Chains.{cost_of_way}
 
@@ -78,20 +78,11 @@ IsNodeShaped s n = IsShaped s.origin.request s.working n
 
 -- ---- effects
 
-abbrev pub Renews : StoreState → StoreState → Spot → ℕ → Type 0
-Renews old new spot b = Told old → IsRenewed old.origin.request old.committed old.working new.working spot.form spot.owner spot.block b
-
 abbrev pub RenewsEntry : StoreState → StoreState → ℕ → ℕ → ℕ → Type 0
 RenewsEntry old new n e b = Told old → EntryRenewed old.origin.request old.committed old.working new.working n e b
 
 abbrev pub RenewsPointer : StoreState → StoreState → Spot → ℕ → ℕ → Type 0
 RenewsPointer old new at i b = Told old → PointerRenewed old.origin.request old.committed old.working new.working at.form at.owner at.block i b
-
-abbrev pub RenewsUnder : StoreState → StoreState → ℕ → ℕ → ℕ → ℕ → Type 0
-RenewsUnder old new n e place b = Told old → UnderRenewed old.origin.request old.committed old.working new.working n e place b
-
-abbrev pub RenewsWay : StoreState → StoreState → ℕ → Way → ℕ → Type 0
-RenewsWay old new n way b = Told old → WayRenewed old.origin.request old.committed old.working new.working n way b
 
 abbrev pub KeepsInodes : StoreState → StoreState → Type 0
 KeepsInodes old new = Told old → new.working.inodes ≡ old.working.inodes

@@ -11,4 +11,4 @@ pub use chain::{Chain, chain_of, cost_of};
 pub use link::{entry_link, pointer_link};
 pub use own::{own_entry, own_pointer, tangled};
 pub use walk::block_of;
-pub use writable::make_writable;
+pub use writable::{make_overwritable, make_writable};

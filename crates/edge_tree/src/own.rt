@@ -5,7 +5,8 @@ ghost use Rattle.edge_store.specs.Calls.{Called, KeepsPoint, KeepsPlaces, KeepsP
 ghost use Rattle.edge_store.specs.Damages.{form_of_entry, form_under};
 ghost use Rattle.edge_store.specs.State.{IsLive, IsNumber, IsAllocable, IsLink, HasInode, IsNew};
 ghost use Rattle.edge_tree.specs.Answers.{TellsWhatIs, IsLinkedTo, IsLinkedSpot, IsReadable};
-ghost use Rattle.edge_tree.specs.Own.{HasFew, IsTangledAt, RoomForBlock, RoomForEntry, RoomForPointer, RoomForUnder, UntangledIf, UndamagedIf, IsSpotSound, IsNodeSound, IsNodeTidy, Renews, RenewsEntry, RenewsPointer, RenewsUnder, KeepsInodes, LeadsTo};
+ghost use Rattle.edge_tree.specs.Own.{HasFew, IsTangledAt, RoomForBlock, RoomForEntry, RoomForPointer, RoomForUnder, UntangledIf, UndamagedIf, IsSpotSound, IsNodeSound, IsNodeTidy, RenewsEntry, RenewsPointer, KeepsInodes, LeadsTo};
+ghost use Rattle.edge_tree.specs.Blank.{FillsBlock, FillsEntry, FillsPointer, FillsUnder};
 
 use crate::link::{entry_link, pointer_link};
 use edge_base::{Damage, DamageKind, Form};
@@ -41,9 +42,18 @@ pub fn tangled<S: Store>(s: &mut S, n: u32) -> StoreFault
     }
 }
 
+/// What a block holds that takes the place of another.
+#[derive(Clone, Copy)]
+pub(crate) enum Renewal {
+    /// What that one held.
+    Same,
+    /// Nothing, and that one is not read.
+    Blank,
+}
+
 /// A new block in place of another, or of none: the block itself where it is new, else one that was
-/// free, with the same in it, or with nothing where there was none.
-fn renew<S: Store>(s: &mut S, from: Spot) -> Result<u32, StoreFault>
+/// free, with nothing in it where there was none.
+fn renew<S: Store>(s: &mut S, from: Spot, renewal: Renewal) -> Result<u32, StoreFault>
     requires live { IsLive (S.state s.old) }
     requires link { IsLink (S.state s.old) from.block }
     requires number { IsNumber (S.state s.old) from.owner }
@@ -58,7 +68,7 @@ fn renew<S: Store>(s: &mut S, from: Spot) -> Result<u32, StoreFault>
     ensures undamaged { UndamagedIf (S.state s.old)
         (IsSpotSound (S.state s.old) from) (RoomForBlock (S.state s.old) from.block) result }
     ensures block { IfOk result (IsAllocable (S.state s.old)) }
-    ensures renewed { IfOk result (Renews (S.state s.old) (S.state s.new) from) }
+    ensures renewed { IfOk result (FillsBlock (S.state s.old) (S.state s.new) from renewal) }
 {
     if from.block == 0 {
         if s.free().now == 0 {
@@ -72,7 +82,54 @@ fn renew<S: Store>(s: &mut S, from: Spot) -> Result<u32, StoreFault>
     if s.free().now == 0 {
         return Err(tangled(s, from.owner));
     }
-    Ok(s.copy(from)?)
+    match renewal {
+        Renewal::Same => Ok(s.copy(from)?),
+        Renewal::Blank => {
+            s.drop_block(from)?;
+            Ok(s.take(from.form, from.owner)?)
+        }
+    }
+}
+
+/// Makes the block of an entry new, as a block of the form that the entry leads to, and tells what
+/// it holds where it takes the place of another.
+pub(crate) fn renew_entry<S: Store>(
+    s: &mut S,
+    n: u32,
+    i: u32,
+    form: Form,
+    renewal: Renewal,
+) -> Result<u32, StoreFault>
+    requires live { IsLive (S.state s.old) }
+    requires number { IsNumber (S.state s.old) n }
+    requires there { HasInode (S.state s.old) n }
+    requires entry { i < entries_of (S.state s.old).origin.request }
+    requires form { form ≡ form_of_entry (S.state s.old).origin.request i }
+    ensures called { Called (S.state s.old) (S.state s.new) result }
+    ensures point { KeepsPoint (S.state s.old) (S.state s.new) }
+    ensures places { OnOk result (KeepsPlacesBut (S.state s.old) (S.state s.new) n) }
+    ensures damage { TellsWhatIs (S.state s.old) (S.state s.new) result }
+    ensures untangled { UntangledIf (S.state s.old) (RoomForEntry (S.state s.old) n i) result }
+    ensures undamaged { UndamagedIf (S.state s.old)
+        (IsNodeSound (S.state s.old) n) (RoomForEntry (S.state s.old) n i) result }
+    ensures block { IfOk result (IsAllocable (S.state s.old)) }
+    ensures was_readable { OnOk result (IsReadable (S.state s.old) n) }
+    ensures readable { OnOk result (IsReadable (S.state s.new) n) }
+    ensures renewed { IfOk result (FillsEntry (S.state s.old) (S.state s.new) n i renewal) }
+    ensures linked { IfOk result (IsLinkedTo (S.state s.new) n form) }
+    ensures is_new { IfOk result (IsNew (S.state s.new)) }
+{
+    let block = entry_link(s, n, i)?;
+    let from = Spot {
+        block,
+        form,
+        owner: n,
+    };
+    let b = renew(s, from, renewal)?;
+    if b != block {
+        s.set_entry(n, i, b)?;
+    }
+    Ok(b)
 }
 
 /// Makes the block of an entry new, as a block of the form that the entry leads to.
@@ -96,15 +153,46 @@ pub fn own_entry<S: Store>(s: &mut S, n: u32, i: u32, form: Form) -> Result<u32,
     ensures linked { IfOk result (IsLinkedTo (S.state s.new) n form) }
     ensures is_new { IfOk result (IsNew (S.state s.new)) }
 {
-    let block = entry_link(s, n, i)?;
+    renew_entry(s, n, i, form, Renewal::Same)
+}
+
+/// Makes the block in a place of a pointer node new. The node itself is new.
+pub(crate) fn renew_pointer<S: Store>(
+    s: &mut S,
+    at: Spot,
+    i: u32,
+    renewal: Renewal,
+) -> Result<u32, StoreFault>
+    requires live { IsLive (S.state s.old) }
+    requires block { IsAllocable (S.state s.old) at.block }
+    requires owner { IsNumber (S.state s.old) at.owner }
+    requires readable { IsReadable (S.state s.old) at.owner }
+    requires form { at.form ≢ Plain }
+    requires place { i < pointers_of (S.state s.old).origin.request }
+    requires linked { IsLinkedSpot (S.state s.old) at }
+    requires is_new { IsNew (S.state s.old) at.block }
+    ensures called { Called (S.state s.old) (S.state s.new) result }
+    ensures point { KeepsPoint (S.state s.old) (S.state s.new) }
+    ensures places { OnOk result (KeepsPlaces (S.state s.old) (S.state s.new)) }
+    ensures damage { TellsWhatIs (S.state s.old) (S.state s.new) result }
+    ensures untangled { UntangledIf (S.state s.old) (RoomForPointer (S.state s.old) at i) result }
+    ensures undamaged { UndamagedIf (S.state s.old)
+        (IsNodeSound (S.state s.old) at.owner) (RoomForPointer (S.state s.old) at i) result }
+    ensures block { IfOk result (IsAllocable (S.state s.old)) }
+    ensures inodes { OnOk result (KeepsInodes (S.state s.old) (S.state s.new)) }
+    ensures renewed { IfOk result (FillsPointer (S.state s.old) (S.state s.new) at i renewal) }
+    ensures leads { IfOk result (LeadsTo (S.state s.new) at i) }
+    ensures is_new { IfOk result (IsNew (S.state s.new)) }
+{
+    let block = pointer_link(s, at, i)?;
     let from = Spot {
         block,
-        form,
-        owner: n,
+        form: form_below(at.form),
+        owner: at.owner,
     };
-    let b = renew(s, from)?;
+    let b = renew(s, from, renewal)?;
     if b != block {
-        s.set_entry(n, i, b)?;
+        s.set_pointer(at, i, b)?;
     }
     Ok(b)
 }
@@ -132,17 +220,7 @@ pub fn own_pointer<S: Store>(s: &mut S, at: Spot, i: u32) -> Result<u32, StoreFa
     ensures leads { IfOk result (LeadsTo (S.state s.new) at i) }
     ensures is_new { IfOk result (IsNew (S.state s.new)) }
 {
-    let block = pointer_link(s, at, i)?;
-    let from = Spot {
-        block,
-        form: form_below(at.form),
-        owner: at.owner,
-    };
-    let b = renew(s, from)?;
-    if b != block {
-        s.set_pointer(at, i, b)?;
-    }
-    Ok(b)
+    renew_pointer(s, at, i, Renewal::Same)
 }
 
 /// Makes the pointer node of an entry new, and then the block in a place of it.
@@ -152,6 +230,7 @@ pub(crate) fn own_under<S: Store>(
     i: u32,
     form: Form,
     place: u32,
+    renewal: Renewal,
 ) -> Result<u32, StoreFault>
     requires live { IsLive (S.state s.old) }
     requires number { IsNumber (S.state s.old) n }
@@ -171,7 +250,8 @@ pub(crate) fn own_under<S: Store>(
     ensures block { IfOk result (IsAllocable (S.state s.old)) }
     ensures was_readable { OnOk result (IsReadable (S.state s.old) n) }
     ensures readable { OnOk result (IsReadable (S.state s.new) n) }
-    ensures renewed { IfOk result (RenewsUnder (S.state s.old) (S.state s.new) n i place) }
+    ensures renewed { IfOk result
+        (FillsUnder (S.state s.old) (S.state s.new) n i place renewal) }
     ensures linked { IfOk result (IsLinkedTo (S.state s.new) n (form_under form)) }
     ensures is_new { IfOk result (IsNew (S.state s.new)) }
 {
@@ -181,5 +261,5 @@ pub(crate) fn own_under<S: Store>(
         form,
         owner: n,
     };
-    own_pointer(s, node, place)
+    renew_pointer(s, node, place, renewal)
 }

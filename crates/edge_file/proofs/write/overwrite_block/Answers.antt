@@ -1,0 +1,76 @@
+use Rattle.std.proofs.Common.{◌≡◌, ◌∙◌, ◌+◌, ◌*◌, ◌≤◌, ◌∷◌, [], ℕ, true, length, Option, sym, ap, subst, arith}
+use Rattle.std.proofs.lemmas.Result.{err_from_is_err_and}
+use Rattle.std.specs.Prelude.{Err}
+use Rattle.edge_base.specs.outside.Below.{Origin}
+use Rattle.edge_store.specs.Effects.{BytesSet}
+use Rattle.edge_store.specs.State.{Told}
+use Rattle.edge_store.specs.View.{View, Inode, free_now, head_of_inode, is_whole}
+use Rattle.edge_moves.specs.Writable.{fresh_on_chain}
+use Rattle.edge_moves.proofs.SlotLaws.{entries_fit, some_pointers_fit}
+use Rattle.edge_moves.proofs.SpentLaws.{whole_by_head}
+use Rattle.edge_file.specs.Bytes.{blocks_under}
+use Rattle.edge_file.specs.Rewritten.{IsWritten, fresh_on}
+use Rattle.edge_file.proofs.AnswerLaws.{on_ok_map, same_fault}
+use Rattle.edge_file.proofs.BlockLaws.{fresh_on-chain, written_block}
+use Rattle.edge_file.proofs.JoinLaws.{fresh_on-alike}
+use Rattle.edge_file.proofs.RangeLaws.{block_alone}
+use Rattle.edge_file.proofs.StepLaws.{some_bytes, view_too}
+use Rattle.edge_file.proofs.WholeLaws.{whole_put}
+use Rattle.edge_file.proofs.write.overwrite_block.Goals as goal
+
+first_byte : (x : ℕ) → x + 0 ≡ x
+first_byte x = omega arith
+
+pub returns-in_err-block-clause-undamaged : goal.returns-in_err-block-clause-undamaged
+returns-in_err-block-clause-undamaged g c told shaped room d e =
+    let old = g.S.Store.state c.args.s.now in
+    let r = old.origin.request in
+    let len = length c.args.bytes.now in
+    let most : 0 + len ≤ r.block_size = let whole : len ≡ r.block_size = c.requires.whole in omega arith in
+    let alone = fresh_on-alike r old.committed old.working old.working c.args.n (c.args.i ∷ []) (blocks_under r (c.args.i * r.block_size + 0) len) [] (block_alone r c.args.i 0 len c.requires.index c.requires.some most) in
+    let here : fresh_on r old.committed old.working c.args.n (blocks_under r (c.args.i * r.block_size + 0) len) ≤ free_now r old.committed old.working =
+    subst (λ (x : ℕ). fresh_on r old.committed old.working c.args.n (blocks_under r x len) ≤ free_now r old.committed old.working) (sym (first_byte (c.args.i * r.block_size))) room in
+    let chain : fresh_on_chain r old.committed old.working c.args.n c.args.i ≤ free_now r old.committed old.working =
+    subst (λ (k : ℕ). k ≤ free_now r old.committed old.working) (sym alone ∙ fresh_on-chain r old.committed old.working c.args.n c.args.i) here in
+    let p = err_from_is_err_and c.from_residual.result c.from_residual.ensures.1 in
+    c.in_err-block.ensures.undamaged told shaped chain d (ap Err (sym p.2) ∙ same_fault _ _ (sym p.1 ∙ e))
+
+pub returns-clause-heads : goal.returns-clause-heads
+returns-clause-heads g c =
+    on_ok_map c.write_block.result (λ ok set told.
+    let first = c.in_ok-block.ensures in
+    let told_mid : Told (g.S.Store.state c.make_overwritable.new.s) = ap (λ (o : Origin). o.tells) first.called.origin ∙ told in
+    let inodes = ap (λ (u : View). u.inodes) (set told_mid).working in
+    let heads = first.heads told in record {
+      others = λ x apart. ap (λ f. f x) inodes ∙ heads.others x apart;
+      head = ap (λ f. head_of_inode (f c.args.n)) inodes ∙ heads.head;
+    }) c.write_block.ensures.set
+
+pub returns-clause-written : goal.returns-clause-written
+returns-clause-written g c =
+    on_ok_map c.write_block.result (λ ok set told indices places once.
+    let old = g.S.Store.state c.args.s.now in
+    let mid = g.S.Store.state c.make_overwritable.new.s in
+    let new = g.S.Store.state c.write_block.new.self in
+    let r = old.origin.request in
+    let n = c.args.n in
+    let list = c.args.bytes.now in
+    let first = c.in_ok-block.ensures in
+    let told_mid : Told mid = ap (λ (o : Origin). o.tells) first.called.origin ∙ told in
+    let told_new : Told new = ap (λ (o : Origin). o.tells) c.write_block.ensures.called.origin ∙ told_mid in
+    let made = first.made told indices places once in
+    let geometry = g.met.S.Store.is_geometry c.args.s.now in
+    let some = some_pointers_fit r geometry in
+    let view_v = g.met.S.Store.working_is_view c.args.s.now told c.requires.live in
+    let view_m = view_too r mid.origin.request mid.working (ap (λ (o : Origin). o.request) (sym first.called.origin)) (g.met.S.Store.working_is_view c.make_overwritable.new.s told_mid first.called.live) in
+    let view_w = view_too r new.origin.request new.working (ap (λ (o : Origin). o.request) (sym first.called.origin ∙ sym c.write_block.ensures.called.origin)) (g.met.S.Store.working_is_view c.write_block.new.self told_new (c.write_block.ensures.called.live ∙ ok)) in
+    let readable = first.readable told_mid in
+    let is_u : is_whole (made.between.inodes n) ≡ true = ap (λ (o : ℕ → Option Inode). is_whole (o n)) (sym made.inodes) ∙ readable in
+    let is_v = whole_by_head (mid.working.inodes n) (old.working.inodes n) (sym (first.heads told).head) readable in
+    let put = whole_put r made.between mid.working new.working c.in_ok-block.block list made.view view_m c.requires.whole made.inodes made.others (set told_mid) in
+    let there = subst (λ (b : ℕ). BytesSet made.between new.working b 0 list) (sym made.block) put in
+    let most : 0 + length list ≤ r.block_size = let whole : length list ≡ r.block_size = c.requires.whole in omega arith in
+    let done : IsWritten r old.committed old.working new.working n (c.args.i * r.block_size + 0) list indices =
+    written_block r old.committed old.working made.between new.working n c.args.i 0 list indices (entries_fit r geometry) some view_v made.view view_w is_v is_u c.requires.index places made.made there c.requires.some most (some_bytes r some) in
+    subst (λ (x : ℕ). IsWritten r old.committed old.working new.working n x list indices) (first_byte (c.args.i * r.block_size)) done)
+    c.write_block.ensures.set
