@@ -3,8 +3,10 @@
 #![tactic(auto)]
 
 mod block;
+mod change;
 mod entries;
 mod look;
 
+pub use change::{place, replace};
 pub use entries::{entry_at, is_empty, slots};
 pub use look::{Found, Place, find, free_slot, look_up};
