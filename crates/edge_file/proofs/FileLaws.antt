@@ -28,7 +28,7 @@ use Rattle.edge_file.proofs.HeadLaws.{here}
 use Rattle.edge_file.proofs.JoinLaws.{place_absent, place_in_range}
 use Rattle.edge_file.proofs.RangeLaws.{lists, positions_alike}
 
-padded_get : (g : Request) (content : List ℕ) (x r : ℕ) → r < g.block_size → slice_index (padded g (take g.block_size (drop x content))) r ≡ slice_index content (x + r)
+pub padded_get : (g : Request) (content : List ℕ) (x r : ℕ) → r < g.block_size → slice_index (padded g (take g.block_size (drop x content))) r ≡ slice_index content (x + r)
 padded_get g content x r low =
     let piece = take g.block_size (drop x content) in
     let long : length piece ≡ min g.block_size (length content - x) = length-take g.block_size (drop x content) ∙ ap (min g.block_size) (length-drop x content) in
@@ -42,7 +42,7 @@ padded_get g content x r low =
           ∙ sym (get_or-eq_default content 0 (omega (arith, long, behind, low)))
     ]
 
-length-padded : (g : Request) (content : List ℕ) (x : ℕ) → length (padded g (take g.block_size (drop x content))) ≡ g.block_size
+pub length-padded : (g : Request) (content : List ℕ) (x : ℕ) → length (padded g (take g.block_size (drop x content))) ≡ g.block_size
 length-padded g content x =
     let piece = take g.block_size (drop x content) in
     let long : length piece ≡ min g.block_size (length (drop x content)) = length-take g.block_size (drop x content) in

@@ -66,7 +66,7 @@ pub(crate) fn rest_behind(g: Geometry, size: u64) -> Option<Piece>
 }
 
 /// How many data blocks have bytes of a node with this size.
-pub(crate) fn block_count(g: Geometry, size: u64) -> u32
+pub fn block_count(g: Geometry, size: u64) -> u32
     requires most { size ≤ max_size_of g }
     ensures count { result ≡ pieces g.block_size size }
     ensures low { result ≤ max_blocks_of g }

@@ -1,5 +1,5 @@
 -- Of the slots of a block one is read behind the other.
-use Rattle.std.proofs.Common.{◌≡◌, ◌∙◌, ℕ, ◌+◌, ◌-◌, ◌^◌, ◌<◌, true, false, List, [], ◌++◌, length, take, drop, Option, Some, None, refl, sym, ap, arith, below_more}
+use Rattle.std.proofs.Common.{◌≡◌, ◌≢◌, ◌∙◌, ℕ, ◌+◌, ◌-◌, ◌^◌, ◌<◌, true, false, inl, inr, List, [], ◌++◌, length, take, drop, Option, Some, None, refl, sym, ap, arith, below_more}
 use Rattle.std.specs.Prelude.{replicate, is_some}
 use Rattle.std.specs.Str.{bytes_eq}
 use Rattle.std.proofs.lemmas.Bool.{false≢true}
@@ -12,7 +12,7 @@ use Rattle.edge_base.specs.layout.Places.{IsWithinLimits}
 use Rattle.edge_base.specs.tree.Slots.{is_name}
 use Rattle.edge_store.specs.Damages.{slot_in}
 use Rattle.edge_slots.specs.Slot.{HasEntry, IsEmpty}
-use Rattle.edge_slots.specs.Block.{Lacks, IsFilledBefore}
+use Rattle.edge_slots.specs.Block.{Lacks, IsFilled, IsFilledBefore, IsOther}
 use Rattle.edge_slots.proofs.SlotLaws.{any_zero, first_zero, behind_name, bare_name}
 
 -- ---- one slot
@@ -61,17 +61,15 @@ abbrev pub IsFreeAmong : Request → List ℕ → ℕ → Option ℕ → Type 0
 IsFreeAmong g block count (Some k) = (k < count) × IsEmpty g (slot_in g block k) × IsFilledBefore g block k
 IsFreeAmong g block count None = IsFilledBefore g block count
 
-pub lacks_entry : (g : Request) (block : List ℕ) (k : ℕ) (name other : List ℕ) (number : ℕ) → Lacks g block k name → HasEntry g (slot_in g block k) other number → (other ≡ name → ⊥) → Lacks g block (k + 1) name
-lacks_entry g block k name other number before has differs =
-    below_more (λ (j : ℕ). (n : ℕ) → HasEntry g (slot_in g block j) name n → ⊥) k before (λ n here. differs (one_name g (slot_in g block k) other name number n has here))
+pub lacks_entry : (g : Request) (block : List ℕ) (k : ℕ) (name other : List ℕ) (number : ℕ) → Lacks g block k name → HasEntry g (slot_in g block k) other number → other ≢ name → Lacks g block (k + 1) name
+lacks_entry g block k name other number before has differs = below_more (λ (j : ℕ). IsOther g name (slot_in g block j)) k before (inr (other, number, has, differs))
 
 pub lacks_empty : (g : Request) (block : List ℕ) (k : ℕ) (name : List ℕ) → Lacks g block k name → IsEmpty g (slot_in g block k) → Lacks g block (k + 1) name
-lacks_empty g block k name before empty =
-    below_more (λ (j : ℕ). (n : ℕ) → HasEntry g (slot_in g block j) name n → ⊥) k before (λ n here. filled_or_empty g (slot_in g block k) name n here empty)
+lacks_empty g block k name before empty = below_more (λ (j : ℕ). IsOther g name (slot_in g block j)) k before (inl empty)
 
 pub free_filled : (g : Request) (block : List ℕ) (k : ℕ) (free : Option ℕ) (name : List ℕ) (number : ℕ) → IsFreeAmong g block k free → HasEntry g (slot_in g block k) name number → IsFreeAmong g block (k + 1) free
 free_filled g block k (Some f) name number (low, empty, before) has = ((omega arith), empty, before)
-free_filled g block k None name number before has = below_more (λ (j : ℕ). IsEmpty g (slot_in g block j) → ⊥) k before (filled_or_empty g (slot_in g block k) name number has)
+free_filled g block k None name number before has = below_more (λ (j : ℕ). IsFilled g (slot_in g block j)) k before (name, number, has)
 
 pub free_again : (g : Request) (block : List ℕ) (k : ℕ) (free : Option ℕ) → IsFreeAmong g block k free → (free ≡ None → ⊥) → IsFreeAmong g block (k + 1) free
 free_again g block k (Some f) (low, empty, before) some = ((omega arith), empty, before)

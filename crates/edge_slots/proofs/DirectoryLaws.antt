@@ -1,9 +1,10 @@
 -- The slots of a directory as they stand in its blocks.
-use Rattle.std.proofs.Common.{◌≡◌, ◌∙◌, ℕ, zero, suc, ◌+◌, ◌-◌, ◌*◌, ◌/◌, ◌<◌, ◌≤◌, inl, inr, true, List, [], ◌∷◌, ◌++◌, length, take, drop, get_or, flat_map, replicate, Option, Some, None, refl, sym, ap, arith, append_assoc, length-append, length-take-le, length-drop, leb-true}
-use Rattle.std.specs.Prelude.{slice_range, All, slice_index_or}
+use Rattle.std.proofs.Common.{◌≡◌, ◌∙◌, ℕ, zero, suc, ◌+◌, ◌-◌, ◌*◌, ◌/◌, ◌<◌, ◌≤◌, inl, inr, true, List, [], ◌∷◌, ◌++◌, length, take, drop, get_or, flat_map, replicate, Option, Some, None, refl, sym, ap, arith, append_assoc, length-append, length-take, length-drop, leb-true}
+use Rattle.std.specs.Prelude.{slice_range, All, IfSome, slice_index_or}
 use Rattle.std.proofs.lemmas.Bool.{cases_lt, and_parts}
-use Rattle.std.proofs.lemmas.List.{length-replicate, drop-replicate, take-replicate, take_at, drop_at, drop-drop, get_or-take, get_or-drop, get_or_past}
+use Rattle.std.proofs.lemmas.List.{length-replicate, drop-replicate, take-replicate, take_at, drop_at, drop-drop, get_or-take, get_or-drop, get_or_past, get_or-append_right, get_or-replicate}
 use Rattle.std.proofs.lemmas.List.Elements.{All-head, All-tail}
+use Rattle.std.proofs.Math.ListN.{get_or-eq_default}
 use Rattle.std.proofs.Math.Nat.{div-mul-le_self, mul-le-mul_right}
 use Rattle.byteorder.specs.Endian.{little_bytes}
 use Rattle.byteorder.specs.Numbers.{length-bytes_low_first}
@@ -33,7 +34,7 @@ short_drop g (suc n) [] h = tt
 short_drop g (suc n) (None ∷ slots) h = short_drop g n slots h
 short_drop g (suc n) (Some e ∷ slots) h = short_drop g n slots h.1
 
-name_short : (g : Request) (name : List ℕ) → is_name g name ≡ true → length name ≤ g.name_max
+pub name_short : (g : Request) (name : List ℕ) → is_name g name ≡ true → length name ≤ g.name_max
 name_short g name h = leb-true (length name) g.name_max (and_parts _ _ h).1
 
 short_from : (g : Request) (slots : Slots) → All (IsEntry g) (entries_of_slots slots) → AreShort g slots
@@ -125,3 +126,40 @@ block_slot g slots i j rules low =
     ap (λ (n : ℕ). take n (drop (j * w) (padded g (flat_map (slot_bytes g) (slots_of_block g slots i))))) width
     ∙ slot_of_padded g (slots_of_block g slots i) j short (omega arith)
     ∙ ap (slot_bytes g) (slot_of_window g slots i j low)
+
+-- ---- the bytes of a block
+
+pub slot_bytes_long : (g : Request) (slot : Option Entry) → IfSome slot (IsEntry g) → length (slot_bytes g slot) ≡ 4 + g.name_max
+slot_bytes_long g None h = slot_width g None [] tt
+slot_bytes_long g (Some e) h = slot_width g (Some e) [] (name_short g e.name h.name, tt)
+
+module _ (g : Request) (slots : Slots) (i : ℕ) (rules : All (IsEntry g) (entries_of_slots slots)) where
+  abbrev front : List ℕ
+  front = flat_map (slot_bytes g) (slots_of_block g slots i)
+
+  abbrev most : ℕ
+  most = slots_in_block g * (4 + g.name_max)
+
+  front_short : length front ≤ most
+  front_short =
+      let k = slots_in_block g in
+      let wide = slots_width g (slots_of_block g slots i) (short_take g k (drop (i * k) slots) (short_drop g (i * k) slots (short_from g slots rules))) in
+      let at_most = length-take k (drop (i * k) slots) in
+      let fewer = mul-le-mul_right {m = length (slots_of_block g slots i)} {n = k} (4 + g.name_max) (omega (arith, at_most)) in
+      omega (arith, wide, fewer)
+
+  pub block_long : length (padded g front) ≡ g.block_size
+  block_long =
+      let whole : most ≤ g.block_size = div-mul-le_self g.block_size (4 + g.name_max) in
+      let both = length-append front (replicate (g.block_size - length front) 0) in
+      let zeros = length_zeros (g.block_size - length front) in
+      omega (arith, front_short, whole, both, zeros)
+
+  -- behind the slots a block has zeros
+  pub block_rest : (x : ℕ) → most ≤ x → get_or (padded g front) x 0 ≡ 0
+  block_rest x past =
+      get_or-append_right front (replicate (g.block_size - length front) 0) (length front) x 0 refl (omega (arith, front_short, past))
+      ∙ elim (cases_lt (x - length front) (g.block_size - length front)) [
+        | inl low ↦ get_or-replicate (g.block_size - length front) (x - length front) 0 0 low
+        | inr high ↦ get_or-eq_default (replicate (g.block_size - length front) 0) 0 (let zeros = length_zeros (g.block_size - length front) in omega (arith, zeros, high))
+      ]

@@ -1,3 +1,3 @@
-mod BlockLaws
-mod DirectoryLaws
+pub mod BlockLaws
+pub mod DirectoryLaws
 mod SlotLaws

@@ -1,5 +1,5 @@
 -- What the slots of one block of a directory say.
-use Rattle.std.specs.Prelude.{◌<◌, ℕ, List, Option, Some, None}
+use Rattle.std.specs.Prelude.{◌≢◌, ◌⊎◌, ◌<◌, ℕ, List, Option, Some, None}
 use Rattle.edge_base.specs.declared.geometry.Request.{Request}
 use Rattle.edge_base.specs.tree.Slots.{slots_in_block}
 use Rattle.edge_store.specs.Damages.{slot_in}
@@ -7,13 +7,21 @@ use Rattle.edge_slots.specs.Slot.{HasEntry, IsEmpty, IsWrong}
 use Rattle.edge_slots.specs.declared.block.Search.{Search}
 use Rattle.edge_slots.specs.declared.block.Search.TheVariants.{Found, Missing}
 
--- no slot of the first so many has the name
-abbrev pub Lacks : Request → List ℕ → ℕ → List ℕ → Type 0
-Lacks g block count name = (j : ℕ) → j < count → (number : ℕ) → HasEntry g (slot_in g block j) name number → ⊥
+-- the slot has an entry
+abbrev pub IsFilled : Request → List ℕ → Type 0
+IsFilled g bytes = (name : List ℕ) × (number : ℕ) × HasEntry g bytes name number
 
--- none of the first so many slots is empty
+-- the slot is empty, or has an entry with another name
+abbrev pub IsOther : Request → List ℕ → List ℕ → Type 0
+IsOther g name bytes = IsEmpty g bytes ⊎ ((other : List ℕ) × (number : ℕ) × HasEntry g bytes other number × (other ≢ name))
+
+-- none of the first so many slots is wrong or has the name
+abbrev pub Lacks : Request → List ℕ → ℕ → List ℕ → Type 0
+Lacks g block count name = (j : ℕ) → j < count → IsOther g name (slot_in g block j)
+
+-- each of the first so many slots is filled
 abbrev pub IsFilledBefore : Request → List ℕ → ℕ → Type 0
-IsFilledBefore g block count = (j : ℕ) → j < count → IsEmpty g (slot_in g block j) → ⊥
+IsFilledBefore g block count = (j : ℕ) → j < count → IsFilled g (slot_in g block j)
 
 -- Slot k is the first one of a block that is empty.
 pub record IsFirstEmpty (g : Request) (block : List ℕ) (k : ℕ) : Type 0 where
@@ -40,10 +48,6 @@ pub record IsMissing (g : Request) (block name : List ℕ) (free : Option ℕ) :
 abbrev pub Seeks : Request → List ℕ → List ℕ → Search → Type 0
 Seeks g block name (Found slot number) = IsFirstNamed g block name slot number
 Seeks g block name (Missing free) = IsMissing g block name free
-
--- the slot has an entry
-abbrev pub IsFilled : Request → List ℕ → Type 0
-IsFilled g bytes = (name : List ℕ) × (number : ℕ) × HasEntry g bytes name number
 
 -- Slot k is the last one below a bound that is filled.
 pub record IsLastBelow (g : Request) (block : List ℕ) (below k : ℕ) : Type 0 where

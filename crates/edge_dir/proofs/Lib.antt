@@ -1,0 +1,12 @@
+pub mod SlotLaws
+pub mod ViewLaws
+pub mod EndLaws
+pub mod SeenLaws
+pub mod DirectoryLaws
+pub mod TextLaws
+pub mod HeldLaws
+pub mod WriteLaws
+pub mod SetLaws
+pub mod EntryLaws
+pub mod StoreLaws
+pub mod LoopLaws
