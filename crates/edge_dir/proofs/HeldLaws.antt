@@ -1,6 +1,6 @@
 -- A directory held by a view as a file that has its bytes.
-use Rattle.std.proofs.Common.{◌≡◌, ◌≢◌, ◌∙◌, ℕ, zero, suc, ◌+◌, ◌-◌, ◌*◌, ◌/◌, ◌%◌, ◌<◌, ◌≤◌, ◌==◌, Bool, true, false, inl, inr, List, [], ◌∷◌, length, take, drop, Option, Some, None, refl, sym, ap, subst, arith}
-use Rattle.std.specs.Prelude.{nat_lt, replicate, slice_index}
+use Rattle.std.proofs.Common.{◌≡◌, ◌∙◌, ℕ, zero, suc, ◌+◌, ◌*◌, ◌/◌, ◌%◌, ◌<◌, ◌≤◌, ◌==◌, Bool, true, inl, inr, List, ◌∷◌, length, take, drop, refl, sym, ap, subst, arith}
+use Rattle.std.specs.Prelude.{replicate, slice_index}
 use Rattle.std.specs.List.{list_any, range_with_len}
 use Rattle.std.proofs.lemmas.Bool.{cases_lt}
 use Rattle.std.proofs.lemmas.Grind.{same_number_lists}
@@ -9,17 +9,15 @@ use Rattle.std.proofs.lemmas.List.FromFn.{length-map-range_with_len, get_or-map-
 use Rattle.std.proofs.lemmas.Nat.{div-add-mod', div-mul-add, mod-mul-add}
 use Rattle.std.proofs.Math.ListN.{get_or-eq_default}
 use Rattle.std.proofs.Math.Nat.{div-lt_iff_lt-mul, le-div_iff_mul-le, mod-lt, mul-le-mul_right}
-use Rattle.edge_base.specs.declared.form.Form.TheVariants.{Plain}
 use Rattle.edge_base.specs.declared.geometry.Request.{Request}
 use Rattle.edge_base.specs.layout.Places.{IsWithinLimits}
 use Rattle.edge_base.specs.tree.NodeRules.{IsDirectory}
 use Rattle.edge_base.specs.tree.Nodes.{block_of, directory, file, indices_of, marked_from, padded}
 use Rattle.edge_base.specs.tree.Slots.{Slots, slot_blocks, slot_bytes, slots_in_block}
-use Rattle.edge_store.specs.Placed.{data_block, HasPlaces, HoldsNode}
-use Rattle.edge_store.specs.View.{View, bytes, content_at}
+use Rattle.edge_store.specs.Placed.{HasPlaces, HoldsNode}
+use Rattle.edge_store.specs.View.{View, bytes}
 use Rattle.edge_slots.proofs.DirectoryLaws.{block_long}
 use Rattle.edge_file.proofs.FileLaws.{length-padded, padded_get}
-use Rattle.edge_dir.specs.Directory.{slot_of}
 use Rattle.edge_dir.proofs.EndLaws.{some_bytes, some_slots}
 use Rattle.edge_dir.proofs.SlotLaws.{blocks_hold, past_last}
 use Rattle.edge_dir.proofs.TextLaws.{byte_behind, byte_in_slots, byte_of_slot, text_of, width}

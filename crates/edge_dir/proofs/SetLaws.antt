@@ -1,7 +1,7 @@
 -- How many slots and blocks a directory has of which a slot was set, and the bytes of that slot.
-use Rattle.std.proofs.Common.{◌≡◌, ◌≢◌, ◌∙◌, ℕ, ◌+◌, ◌-◌, ◌*◌, ◌/◌, ◌<◌, ◌≤◌, max, inl, inr, List, ◌++◌, length, Option, Some, None, refl, sym, ap, subst, arith}
+use Rattle.std.proofs.Common.{◌≡◌, ◌∙◌, ℕ, ◌+◌, ◌-◌, ◌*◌, ◌/◌, ◌<◌, ◌≤◌, max, inl, inr, List, ◌++◌, length, Option, Some, None, sym, ap, arith}
 use Rattle.std.specs.Prelude.{replicate, slice_index}
-use Rattle.std.proofs.lemmas.Bool.{cases_eq, cases_lt}
+use Rattle.std.proofs.lemmas.Bool.{cases_lt}
 use Rattle.std.proofs.lemmas.List.{get_or-append_right}
 use Rattle.std.proofs.Math.ListN.{get_or-append}
 use Rattle.std.proofs.Math.Nat.{add-mul-div_right, div-mul-le_self, le-div_iff_mul-le}
@@ -10,7 +10,6 @@ use Rattle.byteorder.specs.Numbers.{length-bytes_low_first}
 use Rattle.edge_base.specs.declared.geometry.Request.{Request}
 use Rattle.edge_base.specs.tree.Slots.{Entry, Slots, pieces, slot_bytes, trimmed}
 use Rattle.edge_slots.specs.Slot.{entry_of}
-use Rattle.edge_file.specs.Bytes.{with_bytes}
 use Rattle.edge_dir.specs.Directory.{slot_of}
 use Rattle.edge_dir.specs.Written.{BecomesSlot, IsSetTo}
 use Rattle.edge_dir.proofs.SlotLaws.{before_end, last_is_filled, past_last}

@@ -1,14 +1,12 @@
 -- The bytes of a directory by its slots, and what they are where one slot is set.
-use Rattle.std.proofs.Common.{◌≡◌, ◌≢◌, ◌∙◌, ℕ, ◌+◌, ◌-◌, ◌*◌, ◌/◌, ◌%◌, ◌<◌, ◌≤◌, ◌==◌, ◌&&◌, Bool, true, false, cond, inl, inr, List, [], length, take, drop, Option, Some, None, refl, sym, ap, subst, arith}
-use Rattle.std.specs.Prelude.{All, map, nat_le, nat_lt, slice_index}
+use Rattle.std.proofs.Common.{◌≡◌, ◌∙◌, ℕ, ◌+◌, ◌-◌, ◌*◌, ◌/◌, ◌%◌, ◌<◌, ◌≤◌, ◌&&◌, inl, inr, List, length, drop, Option, refl, sym, ap, arith}
+use Rattle.std.specs.Prelude.{map, nat_le, nat_lt, slice_index}
 use Rattle.std.specs.List.{range_with_len}
 use Rattle.std.proofs.lemmas.Bool.{cases_eq, cases_lt, cond-true, cond-false}
 use Rattle.std.proofs.lemmas.Bool.Decides.{nat_tests}
 use Rattle.std.proofs.lemmas.List.{get_or-drop, get_or-take}
-use Rattle.std.proofs.lemmas.List.FromFn.{length-map-range_with_len, get_or-map-range_with_len}
 use Rattle.std.proofs.lemmas.Nat.{div-add-mod', div-mul-add, mod-mul-add}
-use Rattle.std.proofs.Math.ListN.{get_or-eq_default}
-use Rattle.std.proofs.Math.Nat.{div-lt_iff_lt-mul, div-mul-le_self, le-div_iff_mul-le, mod-lt, mul-le-mul_right}
+use Rattle.std.proofs.Math.Nat.{div-lt_iff_lt-mul, mod-lt}
 use Rattle.edge_base.specs.declared.geometry.Request.{Request}
 use Rattle.edge_base.specs.layout.Places.{IsWithinLimits}
 use Rattle.edge_base.specs.tree.NodeRules.{IsDirectory}
@@ -18,7 +16,7 @@ use Rattle.edge_slots.proofs.DirectoryLaws.{block_rest, block_slot}
 use Rattle.edge_file.specs.Bytes.{with_bytes}
 use Rattle.edge_dir.specs.Directory.{slot_of}
 use Rattle.edge_dir.specs.Written.{BecomesSlot, IsSetTo, place_of_slot}
-use Rattle.edge_dir.proofs.EndLaws.{slot_before_end, slots_fit, some_bytes, some_slots}
+use Rattle.edge_dir.proofs.EndLaws.{slot_before_end, slots_fit, some_slots}
 
 -- byte k of the blocks of a directory, one behind the other
 abbrev pub byte_in_slots : Request → Slots → ℕ → ℕ

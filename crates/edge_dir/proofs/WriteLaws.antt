@@ -1,5 +1,5 @@
 -- A directory of which a slot was written.
-use Rattle.std.proofs.Common.{◌≡◌, ◌≢◌, ◌∙◌, ℕ, ◌+◌, ◌-◌, ◌*◌, ◌/◌, ◌%◌, ◌<◌, ◌≤◌, ◌==◌, ◌&&◌, ◌||◌, ◌⊎◌, inl, inr, Bool, true, false, cond, max, List, [], ◌∷◌, ◌++◌, length, Option, Some, None, refl, sym, ap, subst, arith}
+use Rattle.std.proofs.Common.{◌≡◌, ◌∙◌, ℕ, ◌+◌, ◌-◌, ◌*◌, ◌/◌, ◌%◌, ◌<◌, ◌≤◌, ◌==◌, ◌&&◌, ◌||◌, ◌⊎◌, inl, inr, Bool, true, false, cond, max, List, [], ◌∷◌, ◌++◌, length, Option, Some, refl, sym, ap, subst, arith}
 use Rattle.std.specs.Prelude.{nat_le, nat_lt, slice_index}
 use Rattle.std.specs.List.{list_any, range_with_len}
 use Rattle.std.proofs.lemmas.Bool.{cases_lt, ltb-true}
@@ -12,7 +12,7 @@ use Rattle.edge_base.specs.layout.Places.{IsGeometry, IsWithinLimits, max_blocks
 use Rattle.edge_base.specs.tree.NodeRules.{IsDirectory}
 use Rattle.edge_base.specs.tree.Nodes.{directory, file, indices_of}
 use Rattle.edge_base.specs.tree.Slots.{Entry, Slots, pieces, slot_blocks, slots_in_block}
-use Rattle.edge_store.specs.Changed.{NodeChanged, NodeDirtied, has_index}
+use Rattle.edge_store.specs.Changed.{NodeChanged, has_index}
 use Rattle.edge_store.specs.Placed.{HasNode, HoldsNode, IsSized}
 use Rattle.edge_store.specs.View.{View, IsView, entries_of_inode, head_of_inode, is_whole}
 use Rattle.edge_store.proofs.ChangedLaws.{changed_same, dirtied_same}
@@ -22,7 +22,7 @@ use Rattle.edge_file.specs.Bytes.{blocks_under, with_bytes}
 use Rattle.edge_file.specs.Rewritten.{IsWritten}
 use Rattle.edge_file.proofs.ChangeLaws.{rewritten_changed, rewritten_dirty}
 use Rattle.edge_file.proofs.FileLaws.{file_written}
-use Rattle.edge_file.proofs.RangeLaws.{block_alone, lists-append, lists_under, under_in_range}
+use Rattle.edge_file.proofs.RangeLaws.{block_alone, lists-append, under_in_range}
 use Rattle.edge_dir.specs.Directory.{slot_of}
 use Rattle.edge_dir.specs.Written.{BecomesSlot, IsSetTo, SlotsChanged, place_of_slot}
 use Rattle.edge_dir.proofs.EndLaws.{slot_within, some_bytes, some_slots}

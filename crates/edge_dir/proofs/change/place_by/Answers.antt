@@ -1,7 +1,6 @@
-use Rattle.std.proofs.Common.{◌≡◌, ◌∙◌, ℕ, ◌+◌, List, length, Some, sym, ap, subst, arith}
-use Rattle.edge_base.specs.declared.geometry.Request.{Request}
+use Rattle.std.proofs.Common.{◌≡◌, ◌∙◌, ℕ, ◌+◌, length, Some, sym, subst}
 use Rattle.edge_base.specs.layout.Places.{IsWithinLimits}
-use Rattle.edge_base.specs.tree.Slots.{slot_bytes, slots_in_block}
+use Rattle.edge_base.specs.tree.Slots.{slots_in_block}
 use Rattle.edge_cut.proofs.GoLaws.{on_ok_map}
 use Rattle.edge_slots.specs.Slot.{entry_of}
 use Rattle.edge_file.specs.Writing.{RoomForBytes}

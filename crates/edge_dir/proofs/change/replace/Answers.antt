@@ -1,4 +1,4 @@
-use Rattle.std.proofs.Common.{◌≡◌, ◌∙◌, ℕ, ◌+◌, ◌≤◌, List, length, Some, None, sym, ap, subst, arith}
+use Rattle.std.proofs.Common.{◌≡◌, ◌∙◌, ℕ, ◌≤◌, List, length, Some, None, sym, ap, subst, arith}
 use Rattle.byteorder.specs.Endian.{little_bytes}
 use Rattle.edge_base.specs.layout.Places.{IsWithinLimits}
 use Rattle.edge_base.specs.tree.Slots.{slots_in_block}

@@ -1,9 +1,7 @@
-use Rattle.std.proofs.Common.{◌≡◌, ◌∙◌, ℕ, ◌+◌, ◌*◌, ◌/◌, ◌%◌, ◌<◌, ◌≤◌, sym, ap, subst, arith}
-use Rattle.std.proofs.Math.Nat.{mod-lt, mul-le-mul_right}
+use Rattle.std.proofs.Common.{◌≡◌, ◌∙◌, ℕ, ◌+◌, ◌*◌, ◌/◌, ◌%◌, ◌<◌, ap, arith}
+use Rattle.std.proofs.Math.Nat.{mod-lt}
 use Rattle.edge_base.specs.declared.geometry.Request.{Request}
-use Rattle.edge_base.specs.layout.Places.{max_blocks_of}
 use Rattle.edge_base.specs.tree.Slots.{slots_in_block}
-use Rattle.edge_dir.specs.Written.{place_of_slot}
 use Rattle.edge_dir.proofs.EndLaws.{block_most, slot_within, some_slots}
 use Rattle.edge_dir.proofs.change.slot_place.Goals as goal
 
