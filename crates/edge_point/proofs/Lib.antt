@@ -5,6 +5,7 @@ pub mod EndedLaws
 pub mod FindLaws
 pub mod FoundLaws
 pub mod MountedLaws
+pub mod NumberLaws
 pub mod PhaseLaws
 pub mod PlacedLaws
 pub mod ReadLaws

@@ -146,8 +146,8 @@ module _ {D : Type 0} (g : Ghosts D) (IsSuch : ℕ → Type 0) (p q : Parts D) (
     numbers_stay shows same = count_alike (is_free request (working_of g q)) (is_free request (working_of g p)) 2 request.inodes (λ k from below. elim (cases_eq k n) [
       | inl e ↦ ap (is_free request (working_of g q)) e ∙ same ∙ sym (ap (is_free request (working_of g p)) e)
       | inr apart ↦
-        let is_one : is_number request k ≡ true = within 2 request.inodes k from below in
-        λ t. not (other_used shows k false is_one apart t) && not (other_used shows k true is_one apart t)
+          let is_one : is_number request k ≡ true = within 2 request.inodes k from below in
+          λ t. not (other_used shows k false is_one apart t) && not (other_used shows k true is_one apart t)
     ])
 
     module _ (shows : IsTrue (g.origin p.cache.disk).shows)

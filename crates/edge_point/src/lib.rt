@@ -6,6 +6,7 @@ mod begin;
 mod change;
 mod inode;
 mod laws;
+mod make;
 mod parts;
 mod phase;
 mod point;

@@ -45,7 +45,7 @@ returns-in-Ok-clause-stands g c =
     let bounds = limits p.master.geometry is.geometry in
     let long = long_blocks p.master.geometry.block_size bounds.block_size in
     let changes = changes_write d (IsBlock b) p q is live (rest_over p p.imap c.write.new.self) b c.requires.block refl refl c.write.ensures.origin
-        c.in-Ok.ensures.changes c.requires.unused in
+    c.in-Ok.ensures.changes c.requires.unused in
     passes_point d (IsBlock b) p q is live changes (λ shows. has_working_table d (IsBlock b) p q is live changes shows refl
     (λ k second number. wrote_used d (IsBlock b) p q is live (rest_over p p.imap c.write.new.self) b c.requires.block refl refl c.write.ensures.origin
     c.in-Ok.ensures.changes c.requires.unused shows _ (place_has_bit p.master.geometry bounds k second number))
