@@ -11,6 +11,7 @@ pub mod FoundLaws
 pub mod FreeLaws
 pub mod MountedLaws
 pub mod NodeLaws
+pub mod NumberLaws
 pub mod PhaseLaws
 pub mod PlacedLaws
 pub mod PutLaws

@@ -93,11 +93,7 @@ fn put_inode<D: Disk>(p: &mut Parts<D>, n: u32, second: bool) -> Result<(), Stor
 }
 
 /// Writes the inode in the room for a block as that of its number. A fault ends the store.
-pub(crate) fn write_inode<D: Disk>(
-    p: &mut Parts<D>,
-    n: u32,
-    second: bool,
-) -> Result<(), StoreFault>
+pub(crate) fn write_inode<D: Disk>(p: &mut Parts<D>, n: u32, second: bool) -> Result<(), StoreFault>
     requires stands { IsPoint D.Disk p.old }
     requires live { p.old.live ≡ true }
     requires number { is_number p.old.master.geometry n ≡ true }

@@ -10,6 +10,7 @@ mod free;
 mod inode;
 mod laws;
 mod look;
+mod make;
 mod parts;
 mod phase;
 mod point;

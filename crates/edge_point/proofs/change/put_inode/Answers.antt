@@ -81,8 +81,8 @@ returns-then-branch-clause-put g c = λ shows.
     let place_is = c.inode_place-place.ensures.place in
     let shows_m = sees_shows d p m c.is_new_block.result sees shows in
     let other_bit : HasBit m.master.geometry (inode_place_of r n (not second)) =
-        subst (λ (x : Request). HasBit x (inode_place_of r n (not second))) (sym (sees_geometry d p m c.is_new_block.result sees))
-        (place_has_bit r (limits r c.requires.stands.geometry) n (not second) c.requires.number) in
+    subst (λ (x : Request). HasBit x (inode_place_of r n (not second))) (sym (sees_geometry d p m c.is_new_block.result sees))
+    (place_has_bit r (limits r c.requires.stands.geometry) n (not second) c.requires.number) in
     ok_map c.put_node.result (λ node. record {
       second = second;
       lies = record {
@@ -118,8 +118,8 @@ move_inode-requires-clause-unused g c = λ shows_m.
     let sees = c.is_new_block.ensures.sees in
     let shows = subst (λ (o : Origin). IsTrue o.shows) sees.reads.origin shows_m in
     let old : (working_of d p (inode_place_of r c.args.n c.args.second) && not (committed_of d p (inode_place_of r c.args.n c.args.second))) ≡ false =
-        ap (λ (k : ℕ). working_of d p k && not (committed_of d p k)) (sym c.inode_place-place.ensures.place)
-        ∙ sym (c.in_ok-is_new_block.ensures.is_new shows) ∙ c.if-branch.false in
+    ap (λ (k : ℕ). working_of d p k && not (committed_of d p k)) (sym c.inode_place-place.ensures.place)
+    ∙ sym (c.in_ok-is_new_block.ensures.is_new shows) ∙ c.if-branch.false in
     ap (λ (x : Request). committed_of d m (inode_place_of x c.args.n (not c.args.second))) (sees_geometry d p m c.is_new_block.result sees)
     ∙ sees_committed d p m c.is_new_block.result sees shows (inode_place_of r c.args.n (not c.args.second))
     ∙ old_other r (working_of d p) (committed_of d p) c.args.n c.args.second (c.requires.lies shows) old

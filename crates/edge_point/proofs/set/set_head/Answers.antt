@@ -48,8 +48,8 @@ pub returns-in-None-clause-set : goal.returns-in-None-clause-set
 returns-in-None-clause-set g c = λ told.
     let a = state_of g.D.Disk c.args.p.now in
     let none : a.working.inodes c.args.n ≡ None =
-        subst (λ (x : Option Found). TellsInode c.args.p.now.master.geometry (a.places c.args.n) c.find.new.p.block.items (a.working.inodes c.args.n) (Ok x))
-        c.in-None.is (c.in_ok-found.ensures.tells told) in
+    subst (λ (x : Option Found). TellsInode c.args.p.now.master.geometry (a.places c.args.n) c.find.new.p.block.items (a.working.inodes c.args.n) (Ok x))
+    c.in-None.is (c.in_ok-found.ensures.tells told) in
     absurd (cc (sym (c.requires.there told) ∙ ap (λ (x : Option Inode). is_some x) none))
 
 -- ---- it was found
@@ -73,8 +73,8 @@ is_second-second-requires g c =
     let called = c.in_ok-found.ensures.called in
     let law = g.met.D.Disk.sure_is_shown e.cache.disk in
     let tells : Told (state_of d p) → TellsInode r ((state_of d p).places n) m.block.items ((state_of d p).working.inodes n) (Ok (Some f)) = λ told.
-        subst (λ (x : Option Found). TellsInode r ((state_of d p).places n) m.block.items ((state_of d p).working.inodes n) (Ok x)) c.in-Some.is
-        (c.in_ok-found.ensures.tells told) in
+    subst (λ (x : Option Found). TellsInode r ((state_of d p).places n) m.block.items ((state_of d p).working.inodes n) (Ok x)) c.in-Some.is
+    (c.in_ok-found.ensures.tells told) in
     again_number d p m e n f c.requires.number c.find.ensures.stands c.in_ok-found.found called c.find.ensures.working c.find.ensures.geometry c.rewrite_head.ensures.rest c.rewrite_head.ensures.imap c.rewrite_head.ensures.cache law tells
 
 pub write_inode-requires-clause-stands : goal.write_inode-requires-clause-stands
@@ -89,8 +89,8 @@ write_inode-requires-clause-stands g c =
     let called = c.in_ok-found.ensures.called in
     let law = g.met.D.Disk.sure_is_shown e.cache.disk in
     let tells : Told (state_of d p) → TellsInode r ((state_of d p).places n) m.block.items ((state_of d p).working.inodes n) (Ok (Some f)) = λ told.
-        subst (λ (x : Option Found). TellsInode r ((state_of d p).places n) m.block.items ((state_of d p).working.inodes n) (Ok x)) c.in-Some.is
-        (c.in_ok-found.ensures.tells told) in
+    subst (λ (x : Option Found). TellsInode r ((state_of d p).places n) m.block.items ((state_of d p).working.inodes n) (Ok x)) c.in-Some.is
+    (c.in_ok-found.ensures.tells told) in
     again_point d p m e n f c.requires.number c.find.ensures.stands c.in_ok-found.found called c.find.ensures.working c.find.ensures.geometry c.rewrite_head.ensures.rest c.rewrite_head.ensures.imap c.rewrite_head.ensures.cache law tells
 
 pub write_inode-requires-clause-live : goal.write_inode-requires-clause-live
@@ -105,8 +105,8 @@ write_inode-requires-clause-live g c =
     let called = c.in_ok-found.ensures.called in
     let law = g.met.D.Disk.sure_is_shown e.cache.disk in
     let tells : Told (state_of d p) → TellsInode r ((state_of d p).places n) m.block.items ((state_of d p).working.inodes n) (Ok (Some f)) = λ told.
-        subst (λ (x : Option Found). TellsInode r ((state_of d p).places n) m.block.items ((state_of d p).working.inodes n) (Ok x)) c.in-Some.is
-        (c.in_ok-found.ensures.tells told) in
+    subst (λ (x : Option Found). TellsInode r ((state_of d p).places n) m.block.items ((state_of d p).working.inodes n) (Ok x)) c.in-Some.is
+    (c.in_ok-found.ensures.tells told) in
     again_live d p m e n f c.requires.number c.find.ensures.stands c.in_ok-found.found called c.find.ensures.working c.find.ensures.geometry c.rewrite_head.ensures.rest c.rewrite_head.ensures.imap c.rewrite_head.ensures.cache law tells
 
 pub write_inode-requires-clause-number : goal.write_inode-requires-clause-number
@@ -121,8 +121,8 @@ write_inode-requires-clause-number g c =
     let called = c.in_ok-found.ensures.called in
     let law = g.met.D.Disk.sure_is_shown e.cache.disk in
     let tells : Told (state_of d p) → TellsInode r ((state_of d p).places n) m.block.items ((state_of d p).working.inodes n) (Ok (Some f)) = λ told.
-        subst (λ (x : Option Found). TellsInode r ((state_of d p).places n) m.block.items ((state_of d p).working.inodes n) (Ok x)) c.in-Some.is
-        (c.in_ok-found.ensures.tells told) in
+    subst (λ (x : Option Found). TellsInode r ((state_of d p).places n) m.block.items ((state_of d p).working.inodes n) (Ok x)) c.in-Some.is
+    (c.in_ok-found.ensures.tells told) in
     again_number d p m e n f c.requires.number c.find.ensures.stands c.in_ok-found.found called c.find.ensures.working c.find.ensures.geometry c.rewrite_head.ensures.rest c.rewrite_head.ensures.imap c.rewrite_head.ensures.cache law tells
 
 pub write_inode-requires-clause-lies : goal.write_inode-requires-clause-lies
@@ -137,8 +137,8 @@ write_inode-requires-clause-lies g c = λ shows.
     let called = c.in_ok-found.ensures.called in
     let law = g.met.D.Disk.sure_is_shown e.cache.disk in
     let tells : Told (state_of d p) → TellsInode r ((state_of d p).places n) m.block.items ((state_of d p).working.inodes n) (Ok (Some f)) = λ told.
-        subst (λ (x : Option Found). TellsInode r ((state_of d p).places n) m.block.items ((state_of d p).working.inodes n) (Ok x)) c.in-Some.is
-        (c.in_ok-found.ensures.tells told) in
+    subst (λ (x : Option Found). TellsInode r ((state_of d p).places n) m.block.items ((state_of d p).working.inodes n) (Ok x)) c.in-Some.is
+    (c.in_ok-found.ensures.tells told) in
     subst (LiesAt e.master.geometry (working_of d e) n) (sym c.is_second-second.ensures) (again_lies d p m e n f c.requires.number c.find.ensures.stands c.in_ok-found.found called c.find.ensures.working c.find.ensures.geometry c.rewrite_head.ensures.rest c.rewrite_head.ensures.imap c.rewrite_head.ensures.cache law tells shows)
 
 pub returns-in-Some-clause-called : goal.returns-in-Some-clause-called
@@ -153,8 +153,8 @@ returns-in-Some-clause-called g c =
     let called = c.in_ok-found.ensures.called in
     let law = g.met.D.Disk.sure_is_shown e.cache.disk in
     let tells : Told (state_of d p) → TellsInode r ((state_of d p).places n) m.block.items ((state_of d p).working.inodes n) (Ok (Some f)) = λ told.
-        subst (λ (x : Option Found). TellsInode r ((state_of d p).places n) m.block.items ((state_of d p).working.inodes n) (Ok x)) c.in-Some.is
-        (c.in_ok-found.ensures.tells told) in
+    subst (λ (x : Option Found). TellsInode r ((state_of d p).places n) m.block.items ((state_of d p).working.inodes n) (Ok x)) c.in-Some.is
+    (c.in_ok-found.ensures.tells told) in
     again_calls d p m e n f c.requires.number c.find.ensures.stands c.in_ok-found.found called c.find.ensures.working c.find.ensures.geometry c.rewrite_head.ensures.rest c.rewrite_head.ensures.imap c.rewrite_head.ensures.cache law tells c.write_inode.new.p c.write_inode.result c.write_inode.ensures.called
 
 pub returns-in-Some-clause-point : goal.returns-in-Some-clause-point
@@ -169,8 +169,8 @@ returns-in-Some-clause-point g c =
     let called = c.in_ok-found.ensures.called in
     let law = g.met.D.Disk.sure_is_shown e.cache.disk in
     let tells : Told (state_of d p) → TellsInode r ((state_of d p).places n) m.block.items ((state_of d p).working.inodes n) (Ok (Some f)) = λ told.
-        subst (λ (x : Option Found). TellsInode r ((state_of d p).places n) m.block.items ((state_of d p).working.inodes n) (Ok x)) c.in-Some.is
-        (c.in_ok-found.ensures.tells told) in
+    subst (λ (x : Option Found). TellsInode r ((state_of d p).places n) m.block.items ((state_of d p).working.inodes n) (Ok x)) c.in-Some.is
+    (c.in_ok-found.ensures.tells told) in
     again_keeps d p m e n f c.requires.number c.find.ensures.stands c.in_ok-found.found called c.find.ensures.working c.find.ensures.geometry c.rewrite_head.ensures.rest c.rewrite_head.ensures.imap c.rewrite_head.ensures.cache law tells c.write_inode.new.p c.write_inode.result c.find.ensures.point c.write_inode.ensures.point
 
 pub returns-in-Some-clause-damage : goal.returns-in-Some-clause-damage
@@ -185,8 +185,8 @@ returns-in-Some-clause-damage g c = λ told.
     let called = c.in_ok-found.ensures.called in
     let law = g.met.D.Disk.sure_is_shown e.cache.disk in
     let tells : Told (state_of d p) → TellsInode r ((state_of d p).places n) m.block.items ((state_of d p).working.inodes n) (Ok (Some f)) = λ told.
-        subst (λ (x : Option Found). TellsInode r ((state_of d p).places n) m.block.items ((state_of d p).working.inodes n) (Ok x)) c.in-Some.is
-        (c.in_ok-found.ensures.tells told) in
+    subst (λ (x : Option Found). TellsInode r ((state_of d p).places n) m.block.items ((state_of d p).working.inodes n) (Ok x)) c.in-Some.is
+    (c.in_ok-found.ensures.tells told) in
     again_meets d p m e n f c.requires.number c.find.ensures.stands c.in_ok-found.found called c.find.ensures.working c.find.ensures.geometry c.rewrite_head.ensures.rest c.rewrite_head.ensures.imap c.rewrite_head.ensures.cache law tells c.write_inode.new.p c.write_inode.result c.write_inode.ensures.undamaged told
 
 pub returns-in-Some-clause-places : goal.returns-in-Some-clause-places
@@ -201,8 +201,8 @@ returns-in-Some-clause-places g c =
     let called = c.in_ok-found.ensures.called in
     let law = g.met.D.Disk.sure_is_shown e.cache.disk in
     let tells : Told (state_of d p) → TellsInode r ((state_of d p).places n) m.block.items ((state_of d p).working.inodes n) (Ok (Some f)) = λ told.
-        subst (λ (x : Option Found). TellsInode r ((state_of d p).places n) m.block.items ((state_of d p).working.inodes n) (Ok x)) c.in-Some.is
-        (c.in_ok-found.ensures.tells told) in
+    subst (λ (x : Option Found). TellsInode r ((state_of d p).places n) m.block.items ((state_of d p).working.inodes n) (Ok x)) c.in-Some.is
+    (c.in_ok-found.ensures.tells told) in
     again_places d p m e n f c.requires.number c.find.ensures.stands c.in_ok-found.found called c.find.ensures.working c.find.ensures.geometry c.rewrite_head.ensures.rest c.rewrite_head.ensures.imap c.rewrite_head.ensures.cache law tells c.write_inode.new.p c.write_inode.result c.write_inode.ensures.places
 
 pub returns-in-Some-clause-set : goal.returns-in-Some-clause-set
@@ -217,9 +217,9 @@ returns-in-Some-clause-set g c =
     let called = c.in_ok-found.ensures.called in
     let law = g.met.D.Disk.sure_is_shown e.cache.disk in
     let tells : Told (state_of d p) → TellsInode r ((state_of d p).places n) m.block.items ((state_of d p).working.inodes n) (Ok (Some f)) = λ told.
-        subst (λ (x : Option Found). TellsInode r ((state_of d p).places n) m.block.items ((state_of d p).working.inodes n) (Ok x)) c.in-Some.is
-        (c.in_ok-found.ensures.tells told) in
+    subst (λ (x : Option Found). TellsInode r ((state_of d p).places n) m.block.items ((state_of d p).working.inodes n) (Ok x)) c.in-Some.is
+    (c.in_ok-found.ensures.tells told) in
     let spelled : SpellsHead r f.head m.block.items =
-        subst (λ (x : Option Found). IfSome x (λ y. SpellsHead r y.head m.block.items)) c.in-Some.is c.in_ok-found.ensures.spelled in
+    subst (λ (x : Option Found). IfSome x (λ y. SpellsHead r y.head m.block.items)) c.in-Some.is c.in_ok-found.ensures.spelled in
     let will = subst (λ (x : Request). WillSpell x c.args.head (entries_at r m.block.items) e.block.items) (sym (again_geometry d p m e n f c.requires.number c.find.ensures.stands c.in_ok-found.found called c.find.ensures.working c.find.ensures.geometry c.rewrite_head.ensures.rest c.rewrite_head.ensures.imap c.rewrite_head.ensures.cache law tells)) (c.rewrite_head.ensures.spelled r f.head spelled) in
     again_set d p m e n f c.requires.number c.find.ensures.stands c.in_ok-found.found called c.find.ensures.working c.find.ensures.geometry c.rewrite_head.ensures.rest c.rewrite_head.ensures.imap c.rewrite_head.ensures.cache law tells c.write_inode.new.p c.write_inode.result (λ (x : Option Inode). with_head x c.args.head) c.args.head (entries_at r m.block.items) refl will c.write_inode.ensures.written
