@@ -9,6 +9,7 @@ use std::alloc::{AllocError, Global};
 use std::process::Abort;
 use std::test::Fail;
 
+mod changing;
 mod reading;
 
 // A cache over 64 blocks of 512 bytes.

@@ -13,10 +13,10 @@ use std::alloc::{AllocError, Global};
 use std::process::Abort;
 use std::test::Fail;
 
-const NODE: u32 = 19;
+pub(super) const NODE: u32 = 19;
 
 // 64 blocks of 512 bytes, of which 19 and those behind it are allocable.
-fn geometry() -> Result<Geometry, BadGeometry>
+pub(super) fn geometry() -> Result<Geometry, BadGeometry>
     ensures size { IfOk result (λ g. g.block_size ≡ 512) }
     ensures blocks { IfOk result (λ g. g.blocks ≡ 64) }
 {
@@ -32,7 +32,7 @@ fn geometry() -> Result<Geometry, BadGeometry>
 
 // A volume in which blocks 19 and 20 are used. The first is a pointer node, whose first pointer
 // leads to the second.
-fn image_of(alloc: Global, g: Geometry) -> Result<Vec<u8>, AllocError>
+pub(super) fn image_of(alloc: Global, g: Geometry) -> Result<Vec<u8>, AllocError>
     requires size { g.block_size ≡ 512 }
     requires blocks { g.blocks ≡ 64 }
     ensures { IfOk result (λ image. length image.items ≡ 32768) }
