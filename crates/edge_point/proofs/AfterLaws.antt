@@ -1,6 +1,6 @@
 -- One call of a store after another.
-use Rattle.std.proofs.Common.{◌≡◌, ℕ, true, Option, refl, sym, ap, ◌∙◌, subst}
-use Rattle.std.specs.Prelude.{Result, Ok, Err}
+use Rattle.std.proofs.Common.{◌≡◌, ℕ, true, Option, sym, ap, ◌∙◌, subst}
+use Rattle.std.specs.Prelude.{Result, Ok}
 use Rattle.edge_base.specs.declared.damage.Damage.{Damage}
 use Rattle.edge_base.specs.outside.Faults.{TellsCause}
 use Rattle.edge_cache.specs.Cached.{Cached}

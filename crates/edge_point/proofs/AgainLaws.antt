@@ -1,7 +1,6 @@
 -- A call that finds an inode, changes it in the room for a block, and writes it again.
-use Rattle.std.proofs.Common.{◌≡◌, ℕ, Bool, true, List, set, Option, Some, None, refl, sym, ap, ◌∙◌, subst}
+use Rattle.std.proofs.Common.{◌≡◌, ℕ, true, List, Option, Some, None, sym, ap, ◌∙◌}
 use Rattle.std.specs.Prelude.{IsTrue, OnOk, Result, Ok, Err}
-use Rattle.edge_base.specs.declared.damage.Damage.{Damage}
 use Rattle.edge_base.specs.declared.geometry.Request.{Request}
 use Rattle.edge_base.specs.declared.node.Head.{Head}
 use Rattle.edge_base.specs.layout.Bytes.{numbers_at}
@@ -17,7 +16,6 @@ use Rattle.edge_store.specs.declared.fault.StoreFault.{StoreFault}
 use Rattle.edge_anchor.specs.Medium.{medium_of}
 use Rattle.edge_anchor.proofs.CutLaws.{SureIsShown}
 use Rattle.edge_point.specs.Changing.{InodeWritten, LiesAt, WillSpell, not_first, working_of}
-use Rattle.edge_point.specs.Finding.{SpellsHead, TellsInode}
 use Rattle.edge_point.specs.Seen.{state_of}
 use Rattle.edge_point.specs.Standing.{IsPoint}
 use Rattle.edge_point.specs.Steps.{KeepsRest}

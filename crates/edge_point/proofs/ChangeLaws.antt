@@ -1,35 +1,32 @@
 -- Calls that change the working view keep the last point, and all that holds of a store.
-use Rattle.std.proofs.Common.{◌≡◌, ◌≢◌, inl, inr, ℕ, ◌-◌, ◌+◌, ◌<◌, ◌≤◌, Bool, true, false, List, [], ◌∷◌, length, Option, Some, None, refl, sym, ap, ◌∙◌, subst, arith}
-use Rattle.std.specs.Prelude.{IsTrue, Result, Ok, Err, if◌then◌else◌}
+use Rattle.std.proofs.Common.{◌≡◌, inl, inr, ℕ, ◌-◌, ◌≤◌, Bool, true, false, [], ◌∷◌, Option, None, refl, sym, ap, ◌∙◌, subst, arith}
+use Rattle.std.specs.Prelude.{IsTrue, Ok, Err}
 use Rattle.edge_base.specs.declared.damage.Damage.{Damage}
 use Rattle.edge_base.specs.declared.geometry.Request.{Request}
 use Rattle.edge_base.specs.layout.Bitmap.{live_place, used_under}
-use Rattle.edge_base.specs.layout.Places.{IsWithinLimits, imap_nodes_of, inode_place_of}
-use Rattle.edge_base.specs.outside.Faults.{Because, TellsCause}
+use Rattle.edge_base.specs.layout.Places.{IsWithinLimits}
+use Rattle.edge_base.specs.outside.Faults.{Because}
 use Rattle.edge_cache.specs.Cached.{Cached}
 use Rattle.edge_cache.specs.Calls.{content_in}
 use Rattle.edge_cache.specs.Given.{or_shown}
 use Rattle.edge_disk.specs.Disk.{Origin}
 use Rattle.edge_disk.specs.declared.disk.Disk.{Ghosts}
-use Rattle.edge_image.specs.View.{view_over}
 use Rattle.edge_imap.specs.Bitmaps.{Bitmaps, IsFit, IsTied, bitmaps}
-use Rattle.edge_nodes.proofs.GeometryLaws.{limits}
 use Rattle.edge_store.specs.Calls.{Called, KeepsPoint, damage_of}
-use Rattle.edge_store.specs.View.{View, is_number, no_view}
+use Rattle.edge_store.specs.View.{no_view}
 use Rattle.edge_store.specs.declared.fault.StoreFault.{StoreFault}
-use Rattle.edge_anchor.specs.Anchor.{Anchor, HasBit, Loses, Needs, geometry_of, spare_of, to_node}
+use Rattle.edge_anchor.specs.Anchor.{Anchor, HasBit, geometry_of, to_node}
 use Rattle.edge_anchor.specs.Medium.{Follows, IsCommitted, medium_of, shown_alone}
 use Rattle.edge_anchor.proofs.CutLaws.{SureIsShown, committed_alone}
-use Rattle.edge_anchor.proofs.KeepLaws.{follows_more, shown_follows}
+use Rattle.edge_anchor.proofs.KeepLaws.{shown_follows}
 use Rattle.edge_anchor.proofs.ViewLaws.{used_same}
-use Rattle.edge_point.specs.Changing.{Changes, HasWorking, TakesStep, committed_of, working_of}
+use Rattle.edge_point.specs.Changing.{Changes, HasWorking, TakesStep}
 use Rattle.edge_point.specs.Ended.{damage_after, ended}
-use Rattle.edge_point.specs.Finding.{kept_after}
-use Rattle.edge_point.specs.Seen.{IsGuarded, anchor_of, last_view, next_view, state_of}
-use Rattle.edge_point.specs.Spared.{Spares, as_told}
+use Rattle.edge_point.specs.Seen.{IsGuarded, anchor_of, last_view, state_of}
+use Rattle.edge_point.specs.Spared.{Spares}
 use Rattle.edge_point.specs.Standing.{IsPoint, IsTold}
 use Rattle.edge_point.specs.declared.parts.Parts.{Parts}
-use Rattle.edge_point.proofs.SparedLaws.{follows_then, last_stays, last_view as view_stays, led_told, spared_committed, spared_shown}
+use Rattle.edge_point.proofs.SparedLaws.{last_stays, last_view as view_stays}
 use Rattle.edge_point.proofs.StandsLaws.{point_on}
 use Rattle.edge_point.proofs.TakesLaws.{if_same, untorn_none}
 

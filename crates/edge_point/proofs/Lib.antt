@@ -7,8 +7,10 @@ pub mod EffectLaws
 pub mod EndedLaws
 pub mod EndingLaws
 pub mod FindLaws
+pub mod FirstLaws
 pub mod FoundLaws
 pub mod FreeLaws
+pub mod MakeLaws
 pub mod MountedLaws
 pub mod NodeLaws
 pub mod NumberLaws

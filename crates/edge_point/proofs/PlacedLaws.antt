@@ -1,9 +1,9 @@
 -- An inode is put at a place of its number.
-use Rattle.std.proofs.Common.{◌≡◌, ◌≢◌, ◌⊎◌, inl, inr, ℕ, ◌+◌, ◌*◌, ◌<◌, ◌≤◌, ◌&&◌, Bool, true, false, not, List, length, take, drop, refl, sym, ap, ◌∙◌, subst, arith}
+use Rattle.std.proofs.Common.{◌≡◌, ◌≢◌, inl, inr, ℕ, ◌≤◌, ◌&&◌, Bool, true, false, not, List, length, take, drop, refl, sym, ap, ◌∙◌, subst, arith}
 use Rattle.std.specs.Prelude.{IsTrue, OnOk, Result, Ok, Err}
 use Rattle.std.proofs.lemmas.Bool.{eqb-true}
 use Rattle.edge_base.specs.declared.geometry.Request.{Request}
-use Rattle.edge_base.specs.layout.Places.{inode_place_of, table_start_of}
+use Rattle.edge_base.specs.layout.Places.{inode_place_of}
 use Rattle.edge_base.specs.layout.Bitmap.{used_under}
 use Rattle.edge_base.specs.layout.Bytes.{number_at}
 use Rattle.edge_base.specs.layout.Word.{check_word_of}

@@ -1,25 +1,20 @@
 -- What is said of an inode that was found, changed and written again.
-use Rattle.std.proofs.Common.{◌≡◌, ◌≢◌, ℕ, ◌+◌, ◌*◌, ◌≤◌, ◌==◌, ◌&&◌, Bool, true, false, not, cond, List, set, Option, Some, None, refl, sym, ap, ◌∙◌, subst, arith}
+use Rattle.std.proofs.Common.{◌≡◌, ℕ, ◌≤◌, ◌==◌, ◌&&◌, Bool, true, false, not, cond, List, Option, Some, None, refl, sym, ap, ◌∙◌, subst}
 use Rattle.std.specs.Prelude.{IsTrue, nat_le}
 use Rattle.std.proofs.lemmas.Bool.{and_parts, eqb-true, eq-eqb, leb-true}
 use Rattle.edge_base.specs.declared.geometry.Request.{Request}
 use Rattle.edge_base.specs.declared.node.Head.{Head}
 use Rattle.edge_base.specs.declared.node.NodeType.{NodeType}
 use Rattle.edge_base.specs.declared.node.NodeType.TheVariants.{File, Directory}
-use Rattle.edge_base.specs.layout.Bytes.{numbers_at}
-use Rattle.edge_base.specs.layout.Places.{entries_of, inode_place_of}
-use Rattle.edge_base.specs.layout.Spelling.{SpellsInode, inode_in}
+use Rattle.edge_base.specs.layout.Places.{inode_place_of}
 use Rattle.edge_cache.specs.Calls.{content_in}
 use Rattle.edge_disk.specs.declared.disk.Disk.{Ghosts}
-use Rattle.edge_image.specs.View.{inode_at, inode_by, inode_under}
-use Rattle.edge_nodes.specs.Writing.{IsSealed}
+use Rattle.edge_image.specs.View.{inode_by, inode_under}
 use Rattle.edge_nodes.proofs.InodeLaws.{inode_in-spelled}
 use Rattle.edge_store.specs.View.{Inode, View, whole, is_head, is_number, with_inode}
 use Rattle.edge_anchor.proofs.PlacedLaws.{inode_placed}
 use Rattle.edge_point.specs.Changing.{InodeWritten, IsPutAt, LiesAt, WillSpell, not_first, working_of}
-use Rattle.edge_point.specs.Finding.{TellsInode}
 use Rattle.edge_point.specs.Seen.{next_view, place_under, places_of, second_alone, state_of, view_told}
-use Rattle.edge_point.specs.declared.inode.Found.{Found}
 use Rattle.edge_point.specs.declared.parts.Parts.{Parts}
 use Rattle.edge_point.proofs.PlacedLaws.{other_apart}
 

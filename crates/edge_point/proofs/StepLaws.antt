@@ -1,19 +1,17 @@
 -- The steps of calls that change the working view, alone and one after another.
-use Rattle.std.proofs.Common.{◌≡◌, ◌≢◌, ◌⊎◌, inl, inr, ⊎_elim, ℕ, ◌+◌, ◌<◌, ◌≤◌, Bool, true, false, not, List, length, Option, Some, None, refl, sym, ap, ◌∙◌, subst, arith}
+use Rattle.std.proofs.Common.{◌≡◌, ◌≢◌, inl, inr, ⊎_elim, ℕ, ◌+◌, ◌<◌, ◌≤◌, Bool, true, false, List, Option, refl, sym, ap, ◌∙◌, subst, arith}
 use Rattle.std.specs.Prelude.{IsTrue, Result, Ok, Err}
-use Rattle.std.proofs.lemmas.Bool.{cases_eq}
 use Rattle.edge_base.specs.declared.damage.Damage.{Damage}
 use Rattle.edge_base.specs.declared.geometry.Request.{Request}
-use Rattle.edge_base.specs.layout.Bitmap.{live_place, used_under}
-use Rattle.edge_base.specs.layout.Places.{IsWithinLimits, imap_nodes_of, imap_place_of, is_inline_of, table_start_of}
-use Rattle.edge_base.specs.layout.Sizes.{place_of}
+use Rattle.edge_base.specs.layout.Bitmap.{used_under}
+use Rattle.edge_base.specs.layout.Places.{IsWithinLimits, imap_nodes_of, is_inline_of, table_start_of}
 use Rattle.edge_base.specs.outside.Faults.{Because, TellsCause}
 use Rattle.edge_cache.specs.Cached.{Cached}
 use Rattle.edge_cache.specs.Calls.{OnlyChanges, content_in}
 use Rattle.edge_disk.specs.Disk.{Origin}
 use Rattle.edge_disk.specs.declared.disk.Disk.{Ghosts}
 use Rattle.edge_imap.specs.Bitmaps.{Bitmaps, IsTied, SameNodes, bits_of, node_of, spare_place}
-use Rattle.edge_imap.specs.Reading.{OnlyReads, OnlyWrites, Sets, TellsWhy}
+use Rattle.edge_imap.specs.Reading.{OnlyReads, Sets, TellsWhy}
 use Rattle.edge_imap.specs.declared.fault.ImapFault.{ImapFault}
 use Rattle.edge_imap.proofs.BitLaws.{long_blocks}
 use Rattle.edge_imap.proofs.ListLaws.{spare_before}
@@ -22,8 +20,8 @@ use Rattle.edge_mount.proofs.TellsLaws.{content_same}
 use Rattle.edge_nodes.proofs.GeometryLaws.{limits}
 use Rattle.edge_store.specs.Calls.{damage_of}
 use Rattle.edge_store.specs.declared.fault.StoreFault.{StoreFault}
-use Rattle.edge_anchor.specs.Anchor.{Anchor, HangsOn, HasBit, Loses, Needs, geometry_of, spare_of}
-use Rattle.edge_anchor.specs.Medium.{Follows, IsCommitted, medium_of, none_given, shown_alone}
+use Rattle.edge_anchor.specs.Anchor.{Anchor, HangsOn, HasBit, Needs, spare_of}
+use Rattle.edge_anchor.specs.Medium.{Follows, medium_of, none_given, shown_alone}
 use Rattle.edge_anchor.proofs.FreeLaws.{not_live_free, unused_free}
 use Rattle.edge_anchor.proofs.KeepLaws.{follows_more, gives_follow, shown_follows}
 use Rattle.edge_anchor.proofs.PlaceLaws.{low_place}
@@ -32,8 +30,8 @@ use Rattle.edge_point.specs.Changing.{Changes, TakesStep, committed_of, working_
 use Rattle.edge_point.specs.Ended.{damage_after, of_imap}
 use Rattle.edge_point.specs.Finding.{Sees, kept_after}
 use Rattle.edge_point.specs.Seen.{anchor_of}
-use Rattle.edge_point.specs.Spared.{Spares, as_told, block_given}
-use Rattle.edge_point.specs.Standing.{IsPoint, IsTold}
+use Rattle.edge_point.specs.Spared.{Spares, as_told}
+use Rattle.edge_point.specs.Standing.{IsPoint}
 use Rattle.edge_point.specs.Steps.{KeepsRest}
 use Rattle.edge_point.specs.declared.parts.Parts.{Parts}
 use Rattle.edge_point.proofs.ChangeLaws.{list_shown}

@@ -1,11 +1,10 @@
 -- What is told of the working view after a change of an inode, or of blocks.
-use Rattle.std.proofs.Common.{◌≡◌, ◌≢◌, ◌⊎◌, inl, inr, ⊎_elim, ℕ, ◌+◌, ◌<◌, ◌≤◌, ◌&&◌, Bool, true, false, not, cond, List, length, Option, Some, None, refl, sym, ap, ◌∙◌, subst, arith}
+use Rattle.std.proofs.Common.{◌≡◌, ◌≢◌, ◌⊎◌, inl, inr, ⊎_elim, ℕ, ◌&&◌, Bool, true, false, not, length, None, refl, sym, ap, ◌∙◌, subst, arith}
 use Rattle.std.specs.Prelude.{IsTrue, if◌then◌else◌}
 use Rattle.std.proofs.lemmas.Bool.{cases_eq}
 use Rattle.edge_base.specs.declared.geometry.Request.{Request}
 use Rattle.edge_base.specs.layout.Bitmap.{live_place, used_under}
-use Rattle.edge_base.specs.layout.Places.{IsWithinLimits, first_allocable_of, imap_nodes_of, inode_place_of, table_start_of}
-use Rattle.edge_base.specs.layout.Sizes.{place_of}
+use Rattle.edge_base.specs.layout.Places.{IsWithinLimits, inode_place_of}
 use Rattle.edge_cache.specs.Calls.{content_in}
 use Rattle.edge_disk.specs.Disk.{Origin}
 use Rattle.edge_disk.specs.declared.disk.Disk.{Ghosts}
@@ -14,18 +13,16 @@ use Rattle.edge_image.specs.View.{block_under, inode_under, view_over}
 use Rattle.edge_image.proofs.AlikeLaws.{count_alike}
 use Rattle.edge_nodes.proofs.GeometryLaws.{limits}
 use Rattle.edge_store.specs.Calls.{KeepsPlaces, KeepsPlacesBut}
-use Rattle.edge_store.specs.View.{Block, Inode, View, is_allocable, is_number, no_view, with_block, with_inode}
-use Rattle.edge_anchor.specs.Anchor.{Anchor, HasBit, geometry_of, to_node}
-use Rattle.edge_anchor.specs.Medium.{IsCommitted, medium_of, shown_alone}
-use Rattle.edge_anchor.specs.Stays.{BlockStays}
-use Rattle.edge_anchor.proofs.PlaceLaws.{allocable_within, block_has_bit, has_room, low_place, number_within, place_has_bit}
+use Rattle.edge_store.specs.View.{View, is_allocable, is_number, with_block, with_inode}
+use Rattle.edge_anchor.specs.Anchor.{Anchor, HasBit, to_node}
+use Rattle.edge_anchor.specs.Medium.{medium_of, shown_alone}
+use Rattle.edge_anchor.proofs.PlaceLaws.{allocable_within, block_has_bit, low_place, number_within, place_has_bit}
 use Rattle.edge_anchor.proofs.ViewLaws.{block_changes, inode_changes, used_same}
 use Rattle.edge_point.specs.Changing.{Changes, HasWorking, IsPlaceFor, committed_of, working_of}
 use Rattle.edge_point.specs.Seen.{anchor_of, next_view, place_under, places_of, second_alone, state_of, view_told}
-use Rattle.edge_point.specs.Spared.{Spares}
 use Rattle.edge_point.specs.Standing.{IsPoint}
 use Rattle.edge_point.specs.declared.parts.Parts.{Parts}
-use Rattle.edge_point.proofs.ChangeLaws.{changed, follows_shown, last_shown, list_shown, shows_before}
+use Rattle.edge_point.proofs.ChangeLaws.{changed, follows_shown, last_shown, list_shown}
 use Rattle.edge_point.proofs.RoomLaws.{within}
 use Rattle.edge_point.proofs.SparedLaws.{spared_shown}
 use Rattle.edge_point.proofs.TakesLaws.{if_same}

@@ -1,6 +1,5 @@
 -- What the steps of a call that changes the working view do to the parts of a store.
 use Rattle.std.specs.Prelude.{◌≡◌, ◌≢◌, ◌⊎◌, ℕ, ◌==◌, Bool, true, false, not, List, length, Option, Some, None, Result, IsTrue}
-use Rattle.edge_base.specs.declared.damage.Damage.{Damage}
 use Rattle.edge_base.specs.declared.geometry.Request.{Request}
 use Rattle.edge_base.specs.declared.node.Head.{Head}
 use Rattle.edge_base.specs.layout.Bitmap.{used_under}

@@ -1,5 +1,4 @@
-//! A store over a disk, which takes transaction points. So far the phases of a point are here, and
-//! a point of a cache with its bitmap.
+//! A store over a disk, which takes transaction points.
 #![tactic(auto)]
 
 mod begin;
@@ -19,6 +18,7 @@ mod read;
 mod room;
 mod set;
 mod steps;
+mod store;
 mod taken;
 mod transact;
 mod views;

@@ -1,6 +1,5 @@
-use Rattle.std.proofs.Common.{◌≡◌, ◌&&◌, not, Bool, Err, sym, ap, ◌∙◌, subst}
+use Rattle.std.proofs.Common.{Bool, Err, sym, ap, ◌∙◌, subst}
 use Rattle.edge_store.specs.declared.fault.StoreFault.{StoreFault}
-use Rattle.edge_store.specs.declared.fault.StoreFault.TheVariants.{Damaged}
 use Rattle.edge_point.specs.Ended.{is_new_by}
 use Rattle.edge_point.specs.Finding.{Sees}
 use Rattle.edge_point.proofs.EndedLaws.{imap_never, new_by}

@@ -1,4 +1,4 @@
-use Rattle.std.proofs.Common.{◌≡◌, ◌∙◌, ℕ, Bool, true, false, not, Ok, refl, sym, ap, subst}
+use Rattle.std.proofs.Common.{◌≡◌, ◌∙◌, not, sym, ap, subst}
 use Rattle.std.specs.Prelude.{IsTrue}
 use Rattle.edge_base.specs.declared.geometry.Request.{Request}
 use Rattle.edge_base.specs.layout.Places.{inode_place_of}
@@ -6,7 +6,7 @@ use Rattle.edge_disk.specs.Disk.{Origin}
 use Rattle.edge_nodes.proofs.GeometryLaws.{limits}
 use Rattle.edge_anchor.specs.Anchor.{HasBit}
 use Rattle.edge_anchor.proofs.PlaceLaws.{place_has_bit}
-use Rattle.edge_point.specs.Changing.{Changes, IsBlock, IsPlaceFor, TakesStep, committed_of, working_of}
+use Rattle.edge_point.specs.Changing.{IsBlock, IsPlaceFor, committed_of, working_of}
 use Rattle.edge_point.proofs.FindLaws.{always, err_is}
 use Rattle.edge_point.proofs.PlacedLaws.{at_place, is_moved, kept_point, moved_here, never_as, not_both, not_free, ok_map}
 use Rattle.edge_point.proofs.StepLaws.{changes_after, changes_more, step_after, step_as, step_more}

@@ -1,4 +1,4 @@
-use Rattle.std.proofs.Common.{◌≡◌, ◌∙◌, Err, sym, subst}
+use Rattle.std.proofs.Common.{Err, sym, subst}
 use Rattle.edge_cache.specs.Calls.{content_in}
 use Rattle.edge_store.specs.Calls.{Called, KeepsPoint, NeverDamaged}
 use Rattle.edge_store.specs.declared.fault.StoreFault.{StoreFault}
@@ -8,8 +8,6 @@ use Rattle.edge_point.specs.Seen.{state_of}
 use Rattle.edge_point.specs.Standing.{IsPoint}
 use Rattle.edge_point.specs.declared.parts.Parts.{Parts}
 use Rattle.edge_point.proofs.ChangeLaws.{fails_called, fails_keeps, fails_point, passes_called, passes_keeps}
-use Rattle.edge_point.proofs.FindLaws.{err_is}
-use Rattle.edge_point.proofs.PlacedLaws.{never_as}
 use Rattle.edge_point.proofs.SetLaws.{is_written}
 use Rattle.edge_point.proofs.WorkingLaws.{keeps_places_but, working_inode}
 use Rattle.edge_point.proofs.change.write_inode.Goals as goal

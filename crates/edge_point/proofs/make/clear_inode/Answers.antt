@@ -1,9 +1,8 @@
-use Rattle.std.proofs.Common.{◌≡◌, ◌∙◌, ◌+◌, ◌≤◌, ℕ, Bool, true, false, not, min, None, Err, refl, sym, ap, subst, arith}
+use Rattle.std.proofs.Common.{◌≡◌, ◌∙◌, ◌+◌, ◌≤◌, ℕ, Bool, true, false, not, min, Err, sym, ap, subst, arith}
 use Rattle.std.specs.Prelude.{IsTrue}
-use Rattle.edge_base.specs.declared.geometry.Request.{Request}
 use Rattle.edge_base.specs.layout.Places.{inode_place_of}
 use Rattle.edge_cache.specs.Calls.{content_in}
-use Rattle.edge_image.specs.Image.{free_inodes_of, is_free}
+use Rattle.edge_image.specs.Image.{free_inodes_of}
 use Rattle.edge_nodes.proofs.GeometryLaws.{limits}
 use Rattle.edge_store.specs.Calls.{Called, KeepsPoint, NeverDamaged}
 use Rattle.edge_store.specs.View.{with_inode}

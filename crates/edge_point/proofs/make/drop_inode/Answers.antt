@@ -1,13 +1,12 @@
-use Rattle.std.proofs.Common.{◌≡◌, ◌∙◌, ◌+◌, ◌*◌, ◌<◌, ◌≤◌, ℕ, true, List, Option, Ok, Some, None, refl, sym, ap, subst, arith, length}
-use Rattle.std.specs.Prelude.{IfSome, is_some}
-use Rattle.edge_base.specs.declared.geometry.Request.{Request}
+use Rattle.std.proofs.Common.{◌≡◌, ◌∙◌, Option, Ok, Some, None, refl, sym, ap, subst}
+use Rattle.std.specs.Prelude.{is_some}
 use Rattle.edge_store.specs.State.{Told}
-use Rattle.edge_store.specs.View.{Inode, is_number}
+use Rattle.edge_store.specs.View.{Inode}
 use Rattle.edge_point.specs.Changing.{LiesAt, working_of}
 use Rattle.edge_point.specs.Finding.{TellsInode}
 use Rattle.edge_point.specs.Seen.{state_of}
 use Rattle.edge_point.specs.declared.inode.Found.{Found}
-use Rattle.edge_point.proofs.AgainLaws.{again_calls, again_geometry, again_keeps, again_lies, again_live, again_meets, again_number, again_places, again_point, again_dropped}
+use Rattle.edge_point.proofs.AgainLaws.{again_calls, again_keeps, again_lies, again_live, again_meets, again_number, again_places, again_dropped}
 use Rattle.edge_point.proofs.FindLaws.{err_is}
 use Rattle.edge_point.proofs.FoundLaws.{called_err, called_ok, meets_err, meets_ok}
 use Rattle.edge_point.proofs.StepLaws.{rest_over}

@@ -1,4 +1,4 @@
-use Rattle.std.proofs.Common.{◌≡◌, ℕ, List, length, sym, subst, arith}
+use Rattle.std.proofs.Common.{ℕ, List, sym, subst, arith}
 use Rattle.edge_base.specs.layout.Bytes.{number_at, numbers_at}
 use Rattle.edge_base.specs.layout.Places.{entries_of}
 use Rattle.edge_base.specs.layout.Spelling.{SpellsInode}

@@ -1,12 +1,12 @@
-use Rattle.std.proofs.Common.{◌≡◌, ◌∙◌, ◌+◌, ◌*◌, ◌<◌, ◌≤◌, ℕ, true, List, set, Option, Ok, Some, None, refl, sym, ap, subst, arith, length}
+use Rattle.std.proofs.Common.{◌≡◌, ◌∙◌, ◌<◌, set, Option, Ok, Some, None, refl, sym, ap, subst, arith}
 use Rattle.std.specs.Prelude.{IfSome, is_some}
 use Rattle.edge_base.specs.declared.geometry.Request.{Request}
 use Rattle.edge_base.specs.layout.Places.{entries_of}
 use Rattle.edge_imap.proofs.BitLaws.{long_blocks}
 use Rattle.edge_nodes.proofs.GeometryLaws.{limits}
 use Rattle.edge_store.specs.State.{Told}
-use Rattle.edge_store.specs.View.{Inode, is_number, with_entry}
-use Rattle.edge_point.specs.Changing.{LiesAt, WillSpell, not_first, working_of}
+use Rattle.edge_store.specs.View.{Inode, with_entry}
+use Rattle.edge_point.specs.Changing.{LiesAt, WillSpell, working_of}
 use Rattle.edge_point.specs.Finding.{SpellsHead, TellsInode}
 use Rattle.edge_point.specs.Seen.{state_of}
 use Rattle.edge_point.specs.declared.inode.Found.{Found}

@@ -1,10 +1,8 @@
-use Rattle.std.proofs.Common.{◌≡◌, ◌∙◌, ◌+◌, ◌-◌, ◌<◌, ◌≤◌, ℕ, Bool, Err, refl, sym, ap, subst, arith}
-use Rattle.edge_base.specs.layout.Places.{is_inline_of, table_start_of}
-use Rattle.edge_cache.specs.Calls.{content_in}
-use Rattle.edge_imap.specs.Bitmaps.{IsNamedFor, IsTied, bits_of}
+use Rattle.std.proofs.Common.{◌≡◌, ◌∙◌, ◌+◌, ◌-◌, ◌<◌, ◌≤◌, ℕ, Err, sym, ap, subst, arith}
+use Rattle.edge_base.specs.layout.Places.{table_start_of}
+use Rattle.edge_imap.specs.Bitmaps.{IsNamedFor}
 use Rattle.edge_store.specs.declared.fault.StoreFault.{StoreFault}
-use Rattle.edge_store.specs.declared.fault.StoreFault.TheVariants.{Damaged}
-use Rattle.edge_point.specs.Changing.{Changes, IsBlock, TakesStep, working_of}
+use Rattle.edge_point.specs.Changing.{IsBlock, TakesStep, working_of}
 use Rattle.edge_point.proofs.EndedLaws.{imap_never}
 use Rattle.edge_point.proofs.StepLaws.{changes_none, changes_set, over, rest_over, set_here, set_same, step_imap, step_passed}
 use Rattle.edge_point.proofs.steps.mark.Goals as goal
