@@ -55,7 +55,8 @@ WritesSlot old new d k put = Told old → (slots after : Slots) (parent : ℕ) (
 -- Slot k of a directory, at most at its end, has this entry, and its other slots stay, if the directory keeps its rules before and after.
 abbrev pub PlacesEntry : StoreState → StoreState → ℕ → ℕ → Entry → Type 0
 PlacesEntry old new d k e = Told old → (slots after : Slots) (parent : ℕ)
-    → HasNode old.origin.request old.working d (directory slots parent) → IsDirectory old.origin.request after → k ≤ length slots → IsSetTo slots after k (Some e)
+    → HasNode old.origin.request old.working d (directory slots parent) → IsDirectory old.origin.request after → k ≤ length slots
+    → IsSetTo slots after k (Some e)
     → SlotsChanged old.origin.request old.committed old.working new.working d slots after parent (k / slots_in_block old.origin.request ∷ []) []
 
 -- Slot k, which is filled, has another number, and its name and the other slots stay, if the directory keeps its rules before and after.

@@ -8,7 +8,13 @@ use edge_store::{Free, Spot, Store, StoreFault};
 impl<D: Disk> Store for Point<D> {
     ghost use Rattle.edge_cache.specs.Cached.{IsClean};
     ghost use Rattle.edge_point.specs.Seen.{state_of};
-    ghost use Rattle.edge_point.specs.ViewLaws.{at_one_place, committed_view, none_damaged, none_under_way, working_view};
+    ghost use Rattle.edge_point.specs.ViewLaws.{
+      at_one_place,
+      committed_view,
+      none_damaged,
+      none_under_way,
+      working_view,
+    };
 
     ghost state = { λ p. state_of D.Disk p.parts };
 
@@ -108,7 +114,8 @@ impl<D: Disk> Store for Point<D> {
 
     ghost is_geometry = { λ p. p.stands.geometry };
 
-    ghost committed_is_view = { λ p told. committed_view _ p.parts p.stands (D.whole_blocks p.parts.cache.disk) told };
+    ghost committed_is_view = { λ p told.
+        committed_view _ p.parts p.stands (D.whole_blocks p.parts.cache.disk) told };
 
     ghost working_is_view = { λ p told live. working_view _ p.parts p.stands told live };
 
