@@ -17,7 +17,8 @@ pub fn exit_code(report: &Report) -> ExitCode
 
 /// Writes the fault line of a report, with its line feed, where it has one.
 pub fn write_fault_line<W: Write>(errors: &mut W, report: &Report) -> io::Result<()>
-    ensures { OnOk result (Appends (W.contents errors.old) (W.contents errors.new) (fault_line_of report.now)) }
+    ensures { OnOk result
+        (Appends (W.contents errors.old) (W.contents errors.new) (fault_line_of report.now)) }
 {
     let mut line = [0; 64];
     let length = fault_line(report, &mut line);

@@ -44,7 +44,8 @@ Judges g None one two content (Ok told) = ⊥
 Judges g None one two content (Err (NotVolume told)) = told ≡ 4
 Judges g None one two content (Err Device) = Unit {0}
 Judges g (Some live) one two content told =
-    AnswersReason g (reason_under g live.root (drop 32 (live_bytes live one two)) content) (place_of g (used_under g (drop 32 (live_bytes live one two)) content) root_number) told
+    AnswersReason g (reason_under g live.root (drop 32 (live_bytes live one two)) content)
+    (place_of g (used_under g (drop 32 (live_bytes live one two)) content) root_number) told
 
 -- a volume's geometry has the disk's block size, and at most its blocks
 pub record FitsDisk (origin : Origin) (g : Request) : Type 0 where

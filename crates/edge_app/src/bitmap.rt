@@ -38,7 +38,8 @@ pub fn read_bitmap<D: Disk>(
 fn found_inline(g: &Geometry, root: &[u8]) -> Found
     requires inline { IsTrue (is_inline_of g.now) }
     requires root { length root.now ≡ g.now.block_size }
-    ensures found { (content : ℕ → List ℕ) → FindsBitmap g.now (drop 32 root.now) content (Some result) }
+    ensures found { (content : ℕ → List ℕ)
+        → FindsBitmap g.now (drop 32 root.now) content (Some result) }
     ensures fits { FitsBefore g.now g.now.blocks result }
 {
     let blocks = g.request().blocks;
@@ -95,7 +96,8 @@ fn read_node<D: Disk>(
     ensures whole { length block.new ≡ length block.old }
     ensures told { IsTrue (D.origin disk.old).shows
         → IfOk result (FindsNode g.now (drop 32 root.now) (D.shown disk.old) node found.now) }
-    ensures inside { IfOk result (λ more. IfSome more (FitsBefore g.now (node_start g.now (node + 1)))) }
+    ensures inside { IfOk result
+        (λ more. IfSome more (FitsBefore g.now (node_start g.now (node + 1)))) }
 {
     prove!(node < g.imap_nodes());
     let _within_limits = g.request();
@@ -113,9 +115,11 @@ fn found_in_node(g: &Geometry, node: u32, found: &Found, block: &[u8]) -> Found
     requires in_range { node < imap_nodes_of g.now }
     requires block { length block.now ≡ g.now.block_size }
     requires before { FitsBefore g.now (node_start g.now node) found.now }
-    ensures found { (roots : List ℕ) (content : ℕ → List ℕ) → content (live_place g.now roots node) ≡ block.now
+    ensures found { (roots : List ℕ) (content : ℕ → List ℕ)
+        → content (live_place g.now roots node) ≡ block.now
         → IsFoundBefore g.now (used_under g.now roots content) (node_start g.now node) found.now
-        → IsFoundBefore g.now (used_under g.now roots content) (node_start g.now (node + 1)) result }
+        → IsFoundBefore g.now (used_under g.now roots content)
+        (node_start g.now (node + 1)) result }
     ensures fits { FitsBefore g.now (node_start g.now (node + 1)) result }
 {
     let _within_limits = g.request();

@@ -29,7 +29,8 @@ fn is_used(bytes: &[u8], from: u32, start: u32, b: u32) -> bool
 fn count_blocks(g: &Geometry, bytes: &[u8], from: u32, start: u32, end: u32) -> u32
     requires { IsPart g.now from bytes.now start end }
     ensures { result ≡ count_by (is_unused (part_used from bytes.now start))
-        (range_with_len (max start (first_allocable_of g.now)) (end - max start (first_allocable_of g.now))) }
+        (range_with_len (max start (first_allocable_of g.now))
+        (end - max start (first_allocable_of g.now))) }
 {
     let first = start.max(g.first_allocable());
     let mut count = 0;
@@ -43,7 +44,8 @@ fn count_blocks(g: &Geometry, bytes: &[u8], from: u32, start: u32, end: u32) -> 
 fn count_inodes(g: &Geometry, bytes: &[u8], from: u32, start: u32, end: u32) -> u32
     requires { IsPart g.now from bytes.now start end }
     ensures { result ≡ count_by (is_free g.now (part_used from bytes.now start))
-        (range_with_len (2 + (start - table_start_of g.now) / 2) (number_behind g.now end - (2 + (start - table_start_of g.now) / 2))) }
+        (range_with_len (2 + (start - table_start_of g.now) / 2)
+        (number_behind g.now end - (2 + (start - table_start_of g.now) / 2))) }
 {
     let table = g.table_start();
     let first = 2 + (start - table) / 2;
@@ -59,7 +61,8 @@ fn count_inodes(g: &Geometry, bytes: &[u8], from: u32, start: u32, end: u32) -> 
 fn is_free(g: &Geometry, bytes: &[u8], from: u32, start: u32, number: u32) -> bool
     requires number { (2 ≤ number) × (number < 2 + g.now.inodes) }
     requires start { start ≤ table_start_of g.now + 2 * (number - 2) }
-    requires inside { from + (table_start_of g.now + 2 * (number - 2) + 1 - start) / 8 < length bytes.now }
+    requires inside { from + (table_start_of g.now + 2 * (number - 2) + 1 - start) / 8
+        < length bytes.now }
     ensures { result ≡ is_free g.now (part_used from bytes.now start) number }
 {
     !is_used(bytes, from, start, g.inode_place(number, false))
@@ -69,7 +72,8 @@ fn is_free(g: &Geometry, bytes: &[u8], from: u32, start: u32, number: u32) -> bo
 // The place of the root's inode, or the damage where not exactly one of its two places is used.
 fn root_place(g: &Geometry, bytes: &[u8], from: u32) -> Result<u32, Damage>
     requires { from < length bytes.now }
-    ensures place { result ≡ place_of g.now (part_used from bytes.now (table_start_of g.now)) root_number }
+    ensures place { result
+        ≡ place_of g.now (part_used from bytes.now (table_start_of g.now)) root_number }
     ensures inside { IfOk result (λ place. place < g.now.blocks) }
 {
     let _within_limits = g.request();
@@ -103,7 +107,8 @@ fn root_after(
 ) -> Result<u32, Damage>
     requires bytes { from < length bytes.now }
     requires inside { IfOk found.now.root (λ place. place < g.now.blocks) }
-    ensures first { start ≡ table_start_of g.now → result ≡ place_of g.now (part_used from bytes.now start) root_number }
+    ensures first { start ≡ table_start_of g.now
+        → result ≡ place_of g.now (part_used from bytes.now start) root_number }
     ensures later { table_start_of g.now < start → result ≡ found.now.root }
     ensures inside { IfOk result (λ place. place < g.now.blocks) }
 {
@@ -129,8 +134,8 @@ impl Found {
         }
     }
 
-    /// What is known after the part of the blocks from `start` to `end - 1`, whose bits lie in `bytes`
-    /// from `from` on.
+    /// What is known after the part of the blocks from `start` to `end - 1`, whose bits lie in
+    /// `bytes` from `from` on.
     pub fn with_part(&self, g: &Geometry, bytes: &[u8], from: u32, start: u32, end: u32) -> Found
         requires part { IsPart g.now from bytes.now start end }
         requires some { from < length bytes.now }

@@ -16,8 +16,8 @@ use edge_disk::Disk;
 use edge_model::AskFault;
 use edge_nodes::decode_inode;
 
-/// What is kept of a mounted image: its geometry, the place of the root's inode, or what is wrong with
-/// its places, and room for a block.
+/// What is kept of a mounted image: its geometry, the place of the root's inode, or what is wrong
+/// with its places, and room for a block.
 #[derive(Drop)]
 pub struct Kept {
     pub geometry: Geometry,

@@ -90,8 +90,8 @@ impl Geometry {
         Ok(Geometry { request: r })
     }
 
-    /// What the geometry was made of. A body whose proof needs the limits, and nothing else of this,
-    /// calls it too, as `let _within_limits = g.request();`.
+    /// What the geometry was made of. A body whose proof needs the limits, and nothing else of
+    /// this, calls it too, as `let _within_limits = g.request();`.
     #[tactic(auto, unfolding(crate::specs::layout::Places::bad_geometry))]
     pub fn request(&self) -> Request
         ensures same { result ≡ self.now }
@@ -130,8 +130,8 @@ impl Geometry {
         place_in_pair(3, node, second)
     }
 
-    /// The bits of a metaroot's bitmap: one for each block behind the metaroots, or one for each pair
-    /// of imap nodes.
+    /// The bits of a metaroot's bitmap: one for each block behind the metaroots, or one for each
+    /// pair of imap nodes.
     pub fn root_bits(&self) -> u32
         ensures count { result ≡ root_bits_of self.now }
         ensures fits { result ≤ 8 * (self.now.block_size - 32) }
@@ -150,8 +150,8 @@ impl Geometry {
         8 * (self.request.block_size - 16)
     }
 
-    /// The bits that an imap node holds: those of the blocks of the image. Node i holds the bits from
-    /// number `i * node_bits()` on.
+    /// The bits that an imap node holds: those of the blocks of the image. Node i holds the bits
+    /// from number `i * node_bits()` on.
     pub fn bits_of_node(&self, node: u32) -> u32
         requires { node < imap_nodes_of self.now }
         ensures { result ≡ bits_of_node self.now node }

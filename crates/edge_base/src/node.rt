@@ -7,8 +7,8 @@ pub enum NodeType {
     Directory,
 }
 
-/// The head of an inode: its size in bytes, what it is of, how many slots name it, and the number of
-/// the directory that names a directory. The parent of a file and of the root is 0.
+/// The head of an inode: its size in bytes, what it is of, how many slots name it, and the number
+/// of the directory that names a directory. The parent of a file and of the root is 0.
 #[derive(Clone, Copy, Debug, PartialEq, Eq)]
 pub struct Head {
     pub size: u64,
@@ -17,7 +17,8 @@ pub struct Head {
     pub parent: u32,
 }
 
-/// What the master block says: the geometry, and when the image was formatted, in seconds since 1970.
+/// What the master block says: the geometry, and when the image was formatted, in seconds since
+/// 1970.
 #[derive(Clone, Copy, Debug, PartialEq, Eq)]
 pub struct Master {
     pub geometry: Geometry,

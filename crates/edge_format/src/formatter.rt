@@ -90,8 +90,8 @@ fn clear_master<D: Disk>(disk: &mut D, g: &Geometry, buffer: &mut [u8]) -> Resul
     Ok(())
 }
 
-// Writes the imap nodes, the root's inode, the first metaroot and an empty second one, and makes them
-// sure.
+// Writes the imap nodes, the root's inode, the first metaroot and an empty second one, and makes
+// them sure.
 fn write_nodes<D: Disk>(disk: &mut D, g: &Geometry, buffer: &mut [u8]) -> Result<(), DeviceFault>
     requires size { (D.origin disk.old).block_size ≡ g.now.block_size }
     requires fits { g.now.blocks ≤ (D.origin disk.old).blocks }

@@ -45,7 +45,8 @@ fn write_imap<D: Disk>(
     ensures cause { HasCause (D.faults disk.old) (D.faults disk.new) result }
     ensures whole { length buffer.new ≡ length buffer.old }
     ensures shown { IsTrue (D.origin disk.old).shows
-        → OnOk result (HasFirstImap g.now node (D.shown disk.new (imap_place_of g.now node false))) }
+        → OnOk result
+        (HasFirstImap g.now node (D.shown disk.new (imap_place_of g.now node false))) }
     ensures kept { Keeps (λ k. k ≢ imap_place_of g.now node false) (disk_of D.Disk disk.old)
         (disk_of D.Disk disk.new) }
 {

@@ -6,8 +6,8 @@ ghost use Rattle.edge_image.specs.Formatted.{master_of, HasFirstMetaroot, HasFir
 use edge_base::{Geometry, Head, Master, Metaroot, NodeType};
 use edge_nodes::{encode_imap, encode_inode, encode_master, encode_metaroot};
 
-// The bytes of the longest bitmaps of a metaroot and of an imap node, and the entries of the largest
-// inode.
+// The bytes of the longest bitmaps of a metaroot and of an imap node, and the entries of the
+// largest inode.
 const MOST_BITS: usize = 4064;
 
 const MOST_NODE_BITS: usize = 4080;
@@ -22,8 +22,8 @@ pub fn fill_master(g: &Geometry, time: u32, out: &mut [u8])
     encode_master(&Master { geometry: *g, time }, out);
 }
 
-/// Writes the first metaroot over the whole of `out`: the root's place alone is used, or the first of
-/// each pair of imap nodes is live.
+/// Writes the first metaroot over the whole of `out`: the root's place alone is used, or the first
+/// of each pair of imap nodes is live.
 pub fn fill_metaroot(g: &Geometry, out: &mut [u8])
     requires { length out.old ≡ g.now.block_size }
     ensures { HasFirstMetaroot g.now out.new }

@@ -41,8 +41,8 @@ impl<C: rt::Clock> Clock for HostClock<C> {
 
     ghost some_moment = { λ _ tells. Prim.cc tells };
 
-    /// Where the host's clock answers none, or one whose seconds do not fit, as from 2106 on, it gives
-    /// its last moment again, at first 0.
+    /// Where the host's clock answers none, or one whose seconds do not fit, as from 2106 on, it
+    /// gives its last moment again, at first 0.
     fn now(&mut self) -> u32
         ensures { result ≡ last_moment self.new }
     {

@@ -25,8 +25,8 @@ pub struct HostDisk {
     ghost no_file: { ForNone file (blocks ≡ 0) },
 }
 
-// Opens a file for reading and writing, and measures it. One that is made is made where it is missing,
-// and lengthened to `least` bytes. A device has its length at its end alone.
+// Opens a file for reading and writing, and measures it. One that is made is made where it is
+// missing, and lengthened to `least` bytes. A device has its length at its end alone.
 fn open_file(
     files: &impl Files<File = File>,
     path: &str,
@@ -56,15 +56,15 @@ impl HostDisk {
     ghost use Rattle.std.specs.Prelude.{◌*◌, ◌⊎◌, IfSome, IsNone};
     ghost use Rattle.edge_host.specs.HostDisk.{origin_of, faults_of};
 
-    /// The disk over the file at `path`, which is opened once, or over no file. A file that cannot be
-    /// opened for both reading and writing, as one that may only be read, or that has no length, counts
-    /// as no file. Over no file the disk has 0 blocks.
+    /// The disk over the file at `path`, which is opened once, or over no file. A file that cannot
+    /// be opened for both reading and writing, as one that may only be read, or that has no length,
+    /// counts as no file. Over no file the disk has 0 blocks.
     ///
-    /// With `make_blocks` the file is made where it is missing, and lengthened with zeros to so many
-    /// blocks where it has fewer. A file that cannot be made or lengthened counts as no file.
+    /// With `make_blocks` the file is made where it is missing, and lengthened with zeros to so
+    /// many blocks where it has fewer. A file that cannot be made or lengthened counts as no file.
     ///
-    /// A rest of the file that is no whole block, or stands behind block 2^32 - 2, is not part of the
-    /// disk. What others wrote to the file is synced first. Where that fails, each flush fails.
+    /// A rest of the file that is no whole block, or stands behind block 2^32 - 2, is not part of
+    /// the disk. What others wrote to the file is synced first. Where that fails, each flush fails.
     pub fn open(
         files: &impl Files<File = File>,
         path: Option<&str>,

@@ -68,19 +68,20 @@ impl<R: Files<File = File> + AllocGlobal + Clone + Drop> Root<R> {
     }
 }
 
-/// The regular files and the directories below a folder of the host, at any depth. A directory comes
-/// before what is in it, and the names in a directory come by their bytes. Anything else is passed over,
-/// as a link.
+/// The regular files and the directories below a folder of the host, at any depth. A directory
+/// comes before what is in it, and the names in a directory come by their bytes. Anything else is
+/// passed over, as a link.
 ///
-/// Where the folder cannot be opened, each call fails until it can. Before `next` gives a file it opens
-/// it, and before it gives a directory it reads its names. It fails where the host or memory fails, where
-/// one of the names is not UTF-8, or where the path has more than 4,096 bytes; the item stays the next.
+/// Where the folder cannot be opened, each call fails until it can. Before `next` gives a file it
+/// opens it, and before it gives a directory it reads its names. It fails where the host or memory
+/// fails, where one of the names is not UTF-8, or where the path has more than 4,096 bytes; the
+/// item stays the next.
 #[derive(Drop)]
 pub struct HostFolder<R> {
     root: Root<R>,
     is_open: bool,
-    // What was found and is not given yet, by its path below the root. Paths are ordered name by name,
-    // so what is in a directory follows it at once.
+    // What was found and is not given yet, by its path below the root. Paths are ordered name by
+    // name, so what is in a directory follows it at once.
     found: BTreeMap<PathBuf, ItemKind>,
     // The last item given, if it is a file.
     file: Option<File>,
@@ -90,7 +91,8 @@ pub struct HostFolder<R> {
 impl<R: Files<File = File> + AllocGlobal + Clone + Drop> HostFolder<R> {
     ghost use Rattle.edge_host.specs.HostFolder.{path_of, folder_faults};
 
-    /// The folder at `path`, which is opened at the first call. `rt` may be a reference to a runtime.
+    /// The folder at `path`, which is opened at the first call. `rt` may be a reference to a
+    /// runtime.
     pub fn new(rt: R, path: &str) -> Result<HostFolder<R>, AllocError>
         ensures path { IfOk result (λ f. path_of f ≡ path.now) }
         ensures faults { IfOk result (λ f. folder_faults f ≡ 0) }

@@ -1,5 +1,5 @@
-//! A disk over a file of the host, the standard input and output as a source and a sink, a folder of
-//! the host, and its clock. What they hold is told by no clause: these adapters are trusted.
+//! A disk over a file of the host, the standard input and output as a source and a sink, a folder
+//! of the host, and its clock. What they hold is told by no clause: these adapters are trusted.
 #![tactic(auto)]
 
 mod clock;

@@ -7,8 +7,8 @@ use crate::transfer::{read_some, write_some};
 use edge_io::{Sink, SinkFault, Source, SourceFault};
 use std::io::{Read, Write};
 
-/// A reader of the host, as the standard input. Each read is one call of the host, and nothing is read
-/// ahead.
+/// A reader of the host, as the standard input. Each read is one call of the host, and nothing is
+/// read ahead.
 #[derive(Drop)]
 pub struct HostSource<R> {
     input: R,
@@ -36,24 +36,27 @@ impl<R: Read> Source for HostSource<R> {
 
     ghost faults = { source_faults };
 
-    /// Where std tells the reader's bytes, those given are the first of them, and 0 comes at their end alone.
+    /// Where std tells the reader's bytes, those given are the first of them, and 0 comes at their
+    /// end alone.
     fn read(&mut self, out: &mut [u8]) -> Result<usize, SourceFault>
         ensures cause { HasCause (source_faults self.old) (source_faults self.new) result }
         ensures fits { IfOk result (λ n. n ≤ length out.old) }
 
         // Beyond the trait's clauses, where std tells the bytes of the reader.
-        ensures given { IfOk result (λ n. Consumes (left_of R.remaining self.old) (left_of R.remaining self.new) (take n out.new)) }
+        ensures given { IfOk result (λ n. Consumes
+            (left_of R.remaining self.old) (left_of R.remaining self.new) (take n out.new)) }
         ensures end { IfOk result (λ n. n ≡ 0 → 0 < length out.old
             → IsAtEnd (left_of R.remaining self.new)) }
-        ensures failed { OnErr result (Keeps (left_of R.remaining self.old) (left_of R.remaining self.new)) }
+        ensures failed { OnErr result
+            (Keeps (left_of R.remaining self.old) (left_of R.remaining self.new)) }
     {
         let answer = read_some(&mut self.input, out);
         or_fault(answer, &mut self.faults, SourceFault)
     }
 }
 
-/// A writer of the host, as the standard output. Each write is one call of the host. Nothing is kept
-/// back, so bytes whose write failed are not written later.
+/// A writer of the host, as the standard output. Each write is one call of the host. Nothing is
+/// kept back, so bytes whose write failed are not written later.
 #[derive(Drop)]
 pub struct HostSink<W> {
     output: W,
@@ -88,8 +91,10 @@ impl<W: Write> Sink for HostSink<W> {
         ensures some { IfOk result (λ n. 0 < length bytes.now → 0 < n) }
 
         // Beyond the trait's clauses, where std tells the bytes of the writer.
-        ensures taken { IfOk result (λ n. Appends (taken_of W.contents self.old) (taken_of W.contents self.new) (take n bytes.now)) }
-        ensures failed { OnErr result (Keeps (taken_of W.contents self.old) (taken_of W.contents self.new)) }
+        ensures taken { IfOk result (λ n. Appends
+            (taken_of W.contents self.old) (taken_of W.contents self.new) (take n bytes.now)) }
+        ensures failed { OnErr result
+            (Keeps (taken_of W.contents self.old) (taken_of W.contents self.new)) }
     {
         let answer = write_some(&mut self.output, bytes);
         or_fault(answer, &mut self.faults, SinkFault)

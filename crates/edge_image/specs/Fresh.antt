@@ -18,11 +18,13 @@ node_bytes signature word rest = big_bytes 4 signature ++ little_bytes 4 word ++
 -- version 1, 8 inodes, 64 blocks, names of 28 bytes, 4 direct and 32 indirect entries, blocks of 2 ^ 9 bytes, flag 1
 abbrev pub fresh_master : List ℕ
 fresh_master = node_bytes master_signature 0xC2A68702
-    (zeros 8 ++ little_bytes 4 1 ++ zeros 12 ++ little_bytes 4 8 ++ little_bytes 4 64 ++ little_bytes 2 28 ++ little_bytes 2 4 ++ little_bytes 2 32 ++ 9 ∷ 1 ∷ zeros 464)
+    (zeros 8 ++ little_bytes 4 1 ++ zeros 12 ++ little_bytes 4 8 ++ little_bytes 4 64 ++ little_bytes 2 28 ++ little_bytes 2 4 ++ little_bytes 2 32
+    ++ 9 ∷ 1 ∷ zeros 464)
 
 -- sequence number 1, 45 free blocks, 7 free inodes, block 19 is the next to try, and block 3 is used
 abbrev pub fresh_metaroot : List ℕ
-fresh_metaroot = node_bytes metaroot_signature 0x86F8DD92 (little_bytes 8 1 ++ little_bytes 4 45 ++ little_bytes 4 7 ++ little_bytes 4 19 ++ zeros 4 ++ 1 ∷ zeros 479)
+fresh_metaroot = node_bytes metaroot_signature 0x86F8DD92
+    (little_bytes 8 1 ++ little_bytes 4 45 ++ little_bytes 4 7 ++ little_bytes 4 19 ++ zeros 4 ++ 1 ∷ zeros 479)
 
 -- sequence number 1, size 0, a directory with one link, parent 0, no entries
 abbrev pub fresh_root : List ℕ

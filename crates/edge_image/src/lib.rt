@@ -1,6 +1,6 @@
-//! What an image says: its live metaroot, its used blocks, the reasons why it is not mounted, whether
-//! it is ready, its view, and the tree that it opens to. The definitions stand in `specs/`; the
-//! functions here are laws over them, without effects.
+//! What an image says: its live metaroot, its used blocks, the reasons why it is not mounted,
+//! whether it is ready, its view, and the tree that it opens to. The definitions stand in `specs/`;
+//! the functions here are laws over them, without effects.
 #![tactic(auto)]
 
 ghost use Rattle.std.specs.Prelude.{◌≡◌, ◌↔◌, ℕ, ◌+◌, Bool, None, Some, Ok};
@@ -34,7 +34,8 @@ pub fn live_is_the_greater()
         ↔ IsLive g image live }
 {}
 
-/// An image is mounted where no reason holds: with one master and one live metaroot, of which this is so.
+/// An image is mounted where no reason holds: with one master and one live metaroot, of which this
+/// is so.
 pub fn mounts_without_a_reason()
     ensures { (image : Image) → (reason_of image ≡ None)
         ↔ ((master : Master) × (live : Live) × IsMountable image master live) }
@@ -94,9 +95,9 @@ pub fn a_view_has_each_node()
         → StandsFor g v t → t n ≡ Some node → HasNode g v n node }
 {}
 
-/// A view that stands for a tree uses as many blocks as the tree has positions: each position occupies
-/// one. Of an image that opens to a tree, the free blocks that its live metaroot counts and the
-/// positions are together all allocable blocks.
+/// A view that stands for a tree uses as many blocks as the tree has positions: each position
+/// occupies one. Of an image that opens to a tree, the free blocks that its live metaroot counts
+/// and the positions are together all allocable blocks.
 pub fn room_counts()
     ensures allocable { (g : Request) (image : Image) (live : Live)
         → UsesAllocable g (view_of g image live) }

@@ -38,7 +38,8 @@ pub record IsAt (is_committed is_under_way : Tree → Type 0) (torn : Bool) (tre
   pub next : torn ≡ true → (j + 1 < length trees) × is_under_way (tree_at trees (j + 1))
 
 -- Where an Ok leads: to the state of the outcome, with as many points as it has.
-pub record HasCome {T : Type 0} (result : Result T AskFault) (stands : State → Type 0) (state : State) (trees : List Tree) (points_old points_new : ℕ) : Type 0 where
+pub record HasCome {T : Type 0} (result : Result T AskFault) (stands : State → Type 0) (state : State) (trees : List Tree)
+    (points_old points_new : ℕ) : Type 0 where
   pub to_state : OnOk result (stands state)
   pub by_points : OnOk result (points_new ≡ points_old + length trees)
 

@@ -83,7 +83,8 @@ unfoldable pub plan_write : Request → State → ℕ → List ℕ → Result Pl
 plan_write g s h new = do
   d ← writable_at s h
   _ ← refuse_if (nat_lt (max_size_of g) (write_place s d + length new)) refusal.TooBig
-  Ok (record (changes s (written g s.tree d.number (write_place s d) new) event.write (number (length new))) { descriptors = moved s.descriptors h d (write_place s d + length new) })
+  Ok (record (changes s (written g s.tree d.number (write_place s d) new) event.write (number (length new)))
+      { descriptors = moved s.descriptors h d (write_place s d + length new) })
 
 -- ---- truncate
 

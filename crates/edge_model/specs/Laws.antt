@@ -38,7 +38,8 @@ IsCleanAbove g s = (p : Position) (n i : ℕ) → has (tree_positions g s.tree) 
 
 -- a data block that is not dirty has its bytes in the committed tree
 abbrev pub IsCleanSame : Request → State → Type 0
-IsCleanSame g s = (n i : ℕ) → has (tree_positions g s.tree) (data_at n i) ≡ true → has s.dirty (data_at n i) ≡ false → block_of g (node_at s.tree n) i ≡ block_of g (node_at s.committed n) i
+IsCleanSame g s = (n i : ℕ) → has (tree_positions g s.tree) (data_at n i) ≡ true → has s.dirty (data_at n i) ≡ false
+    → block_of g (node_at s.tree n) i ≡ block_of g (node_at s.committed n) i
 
 -- the rules that hold of the dirty positions after every run
 pub record IsDirtySound (g : Request) (s : State) : Type 0 where

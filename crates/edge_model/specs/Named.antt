@@ -63,4 +63,12 @@ new_name g t top node = Err refusal.Exists
 new_name g t (within d name) node = do
   n ← or_refuse (free_number g t) refusal.NoInodes
   slot ← new_slot g t d
-  Ok (record { number = n; edit = record { tree = with_node (placed t d slot (record { name = name; number = n })) n (Some node); writes = slot_position g d slot ∷ []; removes = []; reserve = 3 } })
+  Ok (record {
+    number = n;
+    edit = record {
+      tree = with_node (placed t d slot (record { name = name; number = n })) n (Some node);
+      writes = slot_position g d slot ∷ [];
+      removes = [];
+      reserve = 3;
+    };
+  })

@@ -42,7 +42,12 @@ abbrev pub link_at : Request → State → ℕ → Spot → Result Plan Refusal
 link_at g s n top = Err refusal.Exists
 link_at g s n (within d name) = do
   slot ← new_slot g s.tree d
-  Ok (changes s (record { tree = placed s.tree d slot (record { name = name; number = n }); writes = slot_position g d slot ∷ []; removes = []; reserve = 3 }) event.link done)
+  Ok (changes s (record {
+    tree = placed s.tree d slot (record { name = name; number = n });
+    writes = slot_position g d slot ∷ [];
+    removes = [];
+    reserve = 3;
+  }) event.link done)
 
 unfoldable pub plan_link : Request → State → List ℕ → List ℕ → Result Plan Refusal
 plan_link g s path to = do

@@ -64,7 +64,8 @@ abbrev pub emptied : Request → Tree → ℕ → Edit
 emptied g t n = record { tree = with_node t n (Some (file [] [])); writes = []; removes = data_positions g t n; reserve = 0 }
 
 abbrev pub open_plan : Bool → Request → State → OpenFlags → ℕ → Plan
-open_plan true g s flags n = record (changes s (emptied g s.tree n) event.truncate (number (first_empty s.descriptors))) { descriptors = entered s.descriptors (file_descriptor flags n) }
+open_plan true g s flags n = record (changes s (emptied g s.tree n) event.truncate (number (first_empty s.descriptors)))
+    { descriptors = entered s.descriptors (file_descriptor flags n) }
 open_plan false g s flags n = record (keeps s (number (first_empty s.descriptors))) { descriptors = entered s.descriptors (file_descriptor flags n) }
 
 -- a path that is there

@@ -30,6 +30,7 @@ pub record IsTree (g : Request) (t : Tree) : Type 0 where
   -- each number is reached from the root
   pub reached : (n : ℕ) → is_some (t n) ≡ true → IsReached t n
   -- a file has 1 to 65,535 names
-  pub links : (n : ℕ) (content : List ℕ) (present : List Bool) → t n ≡ Some (file content present) → (1 ≤ names_of_number g t n) × (names_of_number g t n ≤ 65535)
+  pub links : (n : ℕ) (content : List ℕ) (present : List Bool) → t n ≡ Some (file content present)
+      → (1 ≤ names_of_number g t n) × (names_of_number g t n ≤ 65535)
   -- another directory has one name, and its parent holds it
   pub one_name : (n : ℕ) (slots : Slots) (parent : ℕ) → t n ≡ Some (directory slots parent) → n ≢ 2 → (names_of_number g t n ≡ 1) × Names t parent n

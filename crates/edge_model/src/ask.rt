@@ -27,9 +27,9 @@ pub enum AskFault {
 ///
 /// `stands_for` ties it to the state of a session in the model. `committed` and `under_way` say of
 /// which tree the last point was, and of which one the point that a fault cut short, where `torn`
-/// says that there is such a one. `may_hold` and `is_sure` are the candidates of the disk below, and
-/// `is_clean` says that no change waits to be written to it. `guarded` is what was promised of a cut
-/// as the object was made, and no call takes it back.
+/// says that there is such a one. `may_hold` and `is_sure` are the candidates of the disk below,
+/// and `is_clean` says that no change waits to be written to it. `guarded` is what was promised of
+/// a cut as the object was made, and no call takes it back.
 pub trait Ask {
     ghost origin: { Self → Origin };
 

@@ -15,11 +15,12 @@ pub fn refused_keeps()
     ensures { (g : Request) (s : State) (command : Asked) (e : Refusal)
         → (step g s command).answer ≡ Err e
         → (((step g s command).state ≡ s) × ((step g s command).points ≡ []))
-        ⊎ (((step g s command).state ≡ point_taken s) × ((step g s command).points ≡ s.tree ∷ []) × (e ≡ NoSpace) × (gains_by_point g s ≡ true)) }
+        ⊎ (((step g s command).state ≡ point_taken s) × ((step g s command).points ≡ s.tree ∷ [])
+        × (e ≡ NoSpace) × (gains_by_point g s ≡ true)) }
 {}
 
-/// Room is judged last: what else refuses a command is its answer, and a change is refused for want of
-/// room exactly where it does not fit, also after the point that may be taken for it.
+/// Room is judged last: what else refuses a command is its answer, and a change is refused for want
+/// of room exactly where it does not fit, also after the point that may be taken for it.
 pub fn room_comes_last()
     ensures others { (g : Request) (s : State) (command : Asked) (e : Refusal)
         → plan g s command ≡ Err e → (step g s command).answer ≡ Err e }
@@ -38,7 +39,8 @@ pub fn few_points()
         → last_or s.committed (step g s command).points ≡ (step g s command).state.committed }
 {}
 
-/// The first tree of a run is the opening one; the last is the committed one, also after the closing step.
+/// The first tree of a run is the opening one; the last is the committed one, also after the
+/// closing step.
 pub fn last_is_committed()
     ensures first { (g : Request) (t : Tree) (lines : List (Option Asked))
         → (rest : List Tree) × ((run_of g t lines).trees ≡ t ∷ rest) }
@@ -85,8 +87,8 @@ pub fn step_tells()
         → ((run_of g t lines).state ≡ first_state t) × ((run_of g t lines).trees ≡ t ∷ []) }
 {}
 
-/// Each position of the tree that is not dirty is one of the committed tree, and stays so: every command
-/// lists the data blocks that it adds.
+/// Each position of the tree that is not dirty is one of the committed tree, and stays so: every
+/// command lists the data blocks that it adds.
 pub fn clean_is_committed()
     ensures { (g : Request) (s : State) (command : Asked) → IsDirtyWithin g s → IsCleanCommitted g s
         → IsCleanCommitted g (step g s command).state }
@@ -102,15 +104,15 @@ pub fn dirty_is_sound()
         → IsDirtySound g (closed (run_of g t lines)).state }
 {}
 
-/// A data block that is not dirty has its bytes in the committed tree, and stays so: every command lists
-/// the data blocks whose bytes it changes.
+/// A data block that is not dirty has its bytes in the committed tree, and stays so: every command
+/// lists the data blocks whose bytes it changes.
 pub fn clean_data_is_committed()
     ensures { (g : Request) (s : State) (command : Asked) → HasNodes g s.tree → IsCleanSame g s
         → IsCleanSame g (step g s command).state }
 {}
 
-/// A pointer node that is not dirty has the data blocks of the committed tree below it, and stays so:
-/// every command lists the data blocks that it adds and removes.
+/// A pointer node that is not dirty has the data blocks of the committed tree below it, and stays
+/// so: every command lists the data blocks that it adds and removes.
 pub fn clean_pointers_are_committed()
     ensures { (g : Request) (s : State) (command : Asked) → HasNodes g s.tree → IsOpenByKind s
         → IsDirtyWithin g s → IsCleanAbove g s → IsCleanAbove g (step g s command).state }

@@ -1,5 +1,5 @@
-//! Commands and what they mean: a plain tree of files, and a step for each command. `specs/` has the
-//! definitions; `docs/DEFINITIONS.md` reads them in order. `laws` has what holds of every step.
+//! Commands and what they mean: a plain tree of files, and a step for each command. `specs/` has
+//! the definitions; `docs/DEFINITIONS.md` reads them in order. `laws` has what holds of every step.
 #![tactic(auto)]
 
 mod ask;

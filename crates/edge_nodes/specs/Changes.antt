@@ -17,7 +17,8 @@ pub record HasHead (sequence : ℕ) (head : Head) (b : List ℕ) : Type 0 where
 -- an inode has this sequence number and this head, and its entries
 abbrev pub ChangesHead : ℕ → Head → List ℕ → List ℕ → Type 0
 ChangesHead sequence head old new =
-    (g : Request) (before : ℕ) (was : Head) (entries node : List ℕ) → SpellsInode g before was entries old → IsSealed new node → SpellsInode g sequence head entries node
+    (g : Request) (before : ℕ) (was : Head) (entries node : List ℕ) → SpellsInode g before was entries old → IsSealed new node
+    → SpellsInode g sequence head entries node
 
 -- an inode has this number as entry i
 abbrev pub ChangesEntry : ℕ → ℕ → List ℕ → List ℕ → Type 0

@@ -22,8 +22,8 @@ pub fn change_head(b: &mut [u8], sequence: u64, head: &Head)
     put_head(b, head);
 }
 
-/// Writes another number as entry i of an inode. It keeps its head and its other entries, and `seal`
-/// is to put its check word right.
+/// Writes another number as entry i of an inode. It keeps its head and its other entries, and
+/// `seal` is to put its check word right.
 pub fn change_entry(b: &mut [u8], i: u32, entry: u32)
     requires { 32 + 4 * i + 4 ≤ length b.old }
     ensures here { number_at (32 + 4 * i) 4 b.new ≡ entry }
@@ -33,8 +33,8 @@ pub fn change_entry(b: &mut [u8], i: u32, entry: u32)
     put_u32(b, 32 + 4 * i as usize, entry);
 }
 
-/// Writes another number as entry i of a pointer node. It keeps its owner and its other entries, and
-/// `seal` is to put its check word right.
+/// Writes another number as entry i of a pointer node. It keeps its owner and its other entries,
+/// and `seal` is to put its check word right.
 pub fn change_pointer(b: &mut [u8], i: u32, entry: u32)
     requires { 20 + 4 * i + 4 ≤ length b.old }
     ensures here { number_at (20 + 4 * i) 4 b.new ≡ entry }

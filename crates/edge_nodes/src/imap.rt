@@ -17,7 +17,8 @@ pub fn encode_imap(g: &Geometry, node: u32, sequence: u64, bits: &[u8], out: &mu
     requires in_range { node < imap_nodes_of g.now }
     requires whole { length out.old ≡ g.now.block_size }
     requires bitmap { length bits.now + 16 ≡ g.now.block_size }
-    requires unused { (i : ℕ) → bits_of_node g.now node ≤ i → i < 8 * length bits.now → bit_in 0 bits.now i ≡ false }
+    requires unused { (i : ℕ) → bits_of_node g.now node ≤ i
+        → i < 8 * length bits.now → bit_in 0 bits.now i ≡ false }
     ensures { SpellsImap g.now node sequence bits.now out.new }
 {
     prove!(out.len() == block_size(g));
@@ -32,8 +33,10 @@ pub fn decode_imap(g: &Geometry, node: u32, b: &[u8]) -> Result<u64, NodeFault>
     requires in_range { node < imap_nodes_of g.now }
     requires whole { length b.now ≡ g.now.block_size }
     ensures exact { result ≡ imap_in g.now node b.now }
-    ensures spelled { IfOk result (λ sequence. SpellsImap g.now node sequence (drop 16 b.now) b.now) }
-    ensures only { (sequence : ℕ) (bits : List ℕ) → SpellsImap g.now node sequence bits b.now → result ≡ Ok sequence }
+    ensures spelled { IfOk result
+        (λ sequence. SpellsImap g.now node sequence (drop 16 b.now) b.now) }
+    ensures only { (sequence : ℕ) (bits : List ℕ)
+        → SpellsImap g.now node sequence bits b.now → result ≡ Ok sequence }
 {
     prove!(b.len() == block_size(g));
     read_imap(g, node, b)

@@ -34,7 +34,8 @@ pub fn encode_inode(g: &Geometry, sequence: u64, head: &Head, entries: &[u32], o
 pub fn decode_inode(g: &Geometry, b: &[u8]) -> Result<Head, NodeFault>
     requires { length b.now ≡ g.now.block_size }
     ensures exact { result ≡ inode_in b.now }
-    ensures spelled { IfOk result (λ head. SpellsInode g.now (number_at 8 8 b.now) head (numbers_at 32 (entries_of g.now) b.now) b.now) }
+    ensures spelled { IfOk result (λ head. SpellsInode g.now (number_at 8 8 b.now) head
+        (numbers_at 32 (entries_of g.now) b.now) b.now) }
     ensures only { (sequence : ℕ) (head : Head) (entries : List ℕ)
         → SpellsInode g.now sequence head entries b.now → result ≡ Ok head }
 {

@@ -42,7 +42,8 @@ pub fn encode_pointer(
 pub fn decode_pointer(g: &Geometry, double: bool, b: &[u8]) -> Result<u32, NodeFault>
     requires { length b.now ≡ g.now.block_size }
     ensures exact { result ≡ owner_told (pointer_in g.now double b.now) }
-    ensures spelled { IfOk result (λ owner. SpellsPointer g.now double (number_at 8 8 b.now) owner (numbers_at 20 (pointers_of g.now) b.now) b.now) }
+    ensures spelled { IfOk result (λ owner. SpellsPointer g.now double (number_at 8 8 b.now) owner
+        (numbers_at 20 (pointers_of g.now) b.now) b.now) }
     ensures only { (sequence owner : ℕ) (entries : List ℕ)
         → SpellsPointer g.now double sequence owner entries b.now → result ≡ Ok owner }
 {

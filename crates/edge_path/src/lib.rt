@@ -17,8 +17,8 @@ use names::names;
 const LONGEST_PATH: usize = 255;
 
 /// The names of a path, lent from it: none for `/` alone. A path is Invalid where it does not begin
-/// with `/`, or has a name that is empty, `.`, `..` or has a zero byte; else it is NameTooLong where
-/// it has more than 255 bytes, or a name more than `name_max`.
+/// with `/`, or has a name that is empty, `.`, `..` or has a zero byte; else it is NameTooLong
+/// where it has more than 255 bytes, or a name more than `name_max`.
 pub fn parts(path: &[u8], name_max: u32) -> Result<PathNames<'_>, Refusal>
     ensures { result ≡ names_of name_max path.now }
 {

@@ -46,9 +46,11 @@ kept_entries : (o : Option Head) (es : List ℕ) (head : Head) (entries : List �
 kept_entries None es head entries e = absurd (cc)
 kept_entries (Some old) es head entries e = let f : Some (whole old es) ≡ Some (whole head entries) = e in cc
 
-kept_rules : (o : Option Head) (es : List ℕ) (head : Head) (entries : List ℕ) → inode_kept o es ≡ Some (whole head entries) → is_head_or_none o ≡ true → is_head head ≡ true
+kept_rules : (o : Option Head) (es : List ℕ) (head : Head) (entries : List ℕ)
+    → inode_kept o es ≡ Some (whole head entries) → is_head_or_none o ≡ true → is_head head ≡ true
 kept_rules None es head entries e rules = absurd (cc)
-kept_rules (Some old) es head entries e rules = let f : Some (whole old es) ≡ Some (whole head entries) = e in let same : old ≡ head = cc in subst (λ (x : Head). is_head x ≡ true) same rules
+kept_rules (Some old) es head entries e rules = let f : Some (whole old es) ≡ Some (whole head entries) = e in
+    let same : old ≡ head = cc in subst (λ (x : Head). is_head x ≡ true) same rules
 
 never_broken : (o : Option Head) (es : List ℕ) (d : Damage) → inode_kept o es ≡ Some (broken d) → ⊥
 never_broken None es d e = cc
@@ -68,7 +70,8 @@ kept_bytes (Some form) owner ps bs block e = ap bytes_of (sym e) ∙ by_form for
     by_form Double = refl
 
 -- the entries of a pointer node are the row of its block
-node_entries : (form : Form) (f : Option Form) (owner : ℕ) (ps bs : List ℕ) (node : PointerNode) → content form (block_kept f owner ps bs) ≡ pointers (Ok node) → node.entries ≡ ps
+node_entries : (form : Form) (f : Option Form) (owner : ℕ) (ps bs : List ℕ) (node : PointerNode)
+    → content form (block_kept f owner ps bs) ≡ pointers (Ok node) → node.entries ≡ ps
 node_entries form None owner ps bs node e = absurd (cc)
 node_entries Plain (Some Plain) owner ps bs node e = absurd (cc)
 node_entries Plain (Some Indirect) owner ps bs node e = absurd (cc)
@@ -86,7 +89,8 @@ node_entries Double (Some Double) owner ps bs node e =
     let same : record { owner = owner; entries = ps } ≡ node = cc in
     ap (λ (x : PointerNode). x.entries) (sym same)
 
-content_only : (form : Form) (t : Bool) (o : Option Block) (node : PointerNode) → content form (cond t o None) ≡ pointers (Ok node) → (t ≡ true) × (content form o ≡ pointers (Ok node))
+content_only : (form : Form) (t : Bool) (o : Option Block) (node : PointerNode)
+    → content form (cond t o None) ≡ pointers (Ok node) → (t ≡ true) × (content form o ≡ pointers (Ok node))
 content_only form true o node e = (refl, e)
 content_only form false o node e = absurd (cc)
 

@@ -75,7 +75,8 @@ fn write_bytes<S: Store>(s: &mut S, bytes: &[u8], out: &mut [u8]) -> Result<bool
     Ok(true)
 }
 
-// A pointer of a new node, after a point and a copy of the node, which is then dropped and read again.
+// A pointer of a new node, after a point and a copy of the node, which is then dropped and read
+// again.
 fn copy_node<S: Store>(s: &mut S) -> Result<Option<u32>, StoreFault>
     requires live { IsLive (S.state s.old) }
     requires root { IsNumber (S.state s.old) 2 }

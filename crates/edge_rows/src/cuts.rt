@@ -13,8 +13,9 @@ const MOST: u32 = 64;
 /// The place of the byte that is another one in a torn block.
 const TORN: usize = 100;
 
-/// Calls `edge` with words over an image, with each device call failing in turn. Behind each it tells
-/// which blocks have several candidates, and what the images answer that a cut of the power may leave.
+/// Calls `edge` with words over an image, with each device call failing in turn. Behind each it
+/// tells which blocks have several candidates, and what the images answer that a cut of the power
+/// may leave.
 pub fn push_cuts(
     alloc: Global,
     out: &mut String,
@@ -60,8 +61,8 @@ fn push_candidates(out: &mut String, disk: &MemoryDisk) -> Result<()> {
     Ok(())
 }
 
-// How images are judged: by their answer to `stat /`, and whether they are the image as it was before
-// or as it is made.
+// How images are judged: by their answer to `stat /`, and whether they are the image as it was
+// before or as it is made.
 #[derive(Clone, Copy)]
 struct Judge<'a> {
     block_size: u32,

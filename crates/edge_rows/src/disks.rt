@@ -7,9 +7,9 @@ use edge_disk::{Disk, MemoryDisk};
 use edge_statement::byte;
 use std::alloc::Global;
 
-/// Makes calls of a disk over an image that fails where the row says so, and tells after each how many
-/// calls there were, and the candidates of each block. `pN,N,..` tells the first byte of each block of the
-/// image that holds these candidates.
+/// Makes calls of a disk over an image that fails where the row says so, and tells after each how
+/// many calls there were, and the candidates of each block. `pN,N,..` tells the first byte of each
+/// block of the image that holds these candidates.
 pub fn push_disk(
     alloc: Global,
     out: &mut String,
@@ -48,8 +48,8 @@ pub fn push_sure_disk(
     Ok(())
 }
 
-/// Makes a call of a disk, `rB` for a read of block B, `wB:HH` for a write of that byte all over it, and
-/// `f` for a flush, and appends what it answers: the block's first byte, or its fault.
+/// Makes a call of a disk, `rB` for a read of block B, `wB:HH` for a write of that byte all over
+/// it, and `f` for a flush, and appends what it answers: the block's first byte, or its fault.
 pub fn push_call<D: Disk>(alloc: Global, out: &mut String, disk: &mut D, call: &str) -> Result<()> {
     let mut block = vec![in alloc; 0u8; disk.block_size() as usize]?;
     let answer = if call == "f" {

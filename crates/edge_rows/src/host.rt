@@ -29,8 +29,8 @@ pub fn make_file<R: Files<File = File> + AllocGlobal>(
     Ok(())
 }
 
-/// Makes or removes what lies in the folder of the host that the program runs in, where this is such a
-/// statement.
+/// Makes or removes what lies in the folder of the host that the program runs in, where this is
+/// such a statement.
 pub fn change_host<R: Files<File = File> + AllocGlobal>(
     rt: &R,
     verb: &str,
@@ -47,8 +47,8 @@ pub fn change_host<R: Files<File = File> + AllocGlobal>(
     Ok(true)
 }
 
-/// Opens a disk over a file of the host, over none at `-`, which is made with so many blocks, or not
-/// where they are `-`, and makes calls of it. `tN:HH` makes the file anew between two calls.
+/// Opens a disk over a file of the host, over none at `-`, which is made with so many blocks, or
+/// not where they are `-`, and makes calls of it. `tN:HH` makes the file anew between two calls.
 pub fn push_host_disk<R: Files<File = File> + AllocGlobal>(
     rt: &R,
     out: &mut String,
@@ -131,8 +131,8 @@ impl Write for Answers<'_> {
     }
 }
 
-/// Appends what a read and a write of three bytes answer, where the host answers these counts in turn,
-/// `i` for an interrupt, and `b` for a broken pipe.
+/// Appends what a read and a write of three bytes answer, where the host answers these counts in
+/// turn, `i` for an interrupt, and `b` for a broken pipe.
 pub fn push_host_streams<R: AllocGlobal>(rt: &R, out: &mut String, words: &[&str]) -> Result<()> {
     let mut answers = Vec::new(rt.alloc());
     for word in words {

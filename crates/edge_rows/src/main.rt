@@ -1,5 +1,6 @@
-//! A table of cases. Each line of standard input is printed, and below it what its statements answer
-//! over a disk, a source, a sink and a clock in memory. `docs/TESTING.md` has the statements.
+//! A table of cases. Each line of standard input is printed, and below it what its statements
+//! answer over a disk, a source, a sink and a clock in memory. `docs/TESTING.md` has the
+//! statements.
 #![tactic(auto)]
 
 mod cuts;

@@ -66,10 +66,11 @@ fn push_metaroot(out: &mut String, g: &Geometry, block: &[u8]) -> Result<()>
         Ok(root) => {
             let (blocks, inodes) = (root.free_blocks, root.free_inodes);
             let bitmap = bits_of(block, 32).len();
+            write!(out, "  sequence {}, free {blocks} blocks ", root.sequence)?;
             write!(
                 out,
-                "  sequence {}, free {blocks} blocks {inodes} inodes, next {}, {bitmap} bytes of bits:",
-                root.sequence, root.next
+                "{inodes} inodes, next {}, {bitmap} bytes of bits:",
+                root.next
             )?;
             for i in 0..g.root_bits() {
                 if bit_of(block, 32, i) {
@@ -132,8 +133,8 @@ fn push_inode(out: &mut String, g: &Geometry, block: &[u8]) -> Result<()>
     Ok(())
 }
 
-/// Appends the bytes of a block, sixteen a line, without the lines that repeat the last one's byte to the
-/// block's end.
+/// Appends the bytes of a block, sixteen a line, without the lines that repeat the last one's byte
+/// to the block's end.
 pub fn push_block(out: &mut String, block: &[u8]) -> Result<()> {
     let last = block.last().copied().unwrap_or(0);
     let rest = block.iter().rev().take_while(|byte| **byte == last).count();

@@ -110,8 +110,8 @@ pub fn clock_of(alloc: Global, moments: &[u32]) -> Result<MemoryClock, AllocErro
     MemoryClock::new(alloc, moments)
 }
 
-/// Appends what a call of `edge` has answered: its report, the calls of the disk where they are counted,
-/// the fault line, and what the sink took.
+/// Appends what a call of `edge` has answered: its report, the calls of the disk where they are
+/// counted, the fault line, and what the sink took.
 pub fn push_answer<D>(
     out: &mut String,
     row: &Row,
@@ -146,7 +146,8 @@ pub fn push_fault(out: &mut String, report: &Report) -> Result<(), AllocError> {
     push_escaped(out, &line[..length])
 }
 
-/// The image in which each block holds the candidate of its number, and none where one is not there.
+/// The image in which each block holds the candidate of its number, and none where one is not
+/// there.
 pub fn permitted(
     alloc: Global,
     disk: &MemoryDisk,

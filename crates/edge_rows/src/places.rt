@@ -14,8 +14,8 @@ pub fn push_words(out: &mut String, words: &[&str]) -> Result<()> {
     Ok(())
 }
 
-/// Appends the places of a geometry, and the ways to some data blocks of a file; or the first limit that
-/// is broken.
+/// Appends the places of a geometry, and the ways to some data blocks of a file; or the first limit
+/// that is broken.
 pub fn push_geometry(out: &mut String, words: &[&str]) -> Result<()> {
     let request = Request {
         block_size: number32(words, 0)?,

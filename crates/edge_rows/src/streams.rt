@@ -7,7 +7,8 @@ use edge_io::{
 use edge_statement::{number, push_escaped, push_lines, unescaped, word};
 use std::alloc::Global;
 
-/// Reads from a source of the script with room for so many bytes at each call, and appends what each gives.
+/// Reads from a source of the script with room for so many bytes at each call, and appends what
+/// each gives.
 pub fn push_source(alloc: Global, out: &mut String, row: &Row, words: &[&str]) -> Result<()> {
     let mut source = MemorySource::new(alloc, &row.script, &row.source_fails)?;
     for place in 0..words.len() {

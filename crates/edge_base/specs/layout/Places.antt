@@ -55,7 +55,8 @@ way_of g i =
     let double = single - g.indirect * pointers_of g in
     if nat_lt i g.direct then Direct i
     else if nat_lt single (g.indirect * pointers_of g) then Single (g.direct + single / pointers_of g) (single % pointers_of g)
-    else Double (g.direct + g.indirect + double / (pointers_of g * pointers_of g)) (double % (pointers_of g * pointers_of g) / pointers_of g) (double % pointers_of g)
+    else Double (g.direct + g.indirect + double / (pointers_of g * pointers_of g))
+    (double % (pointers_of g * pointers_of g) / pointers_of g) (double % pointers_of g)
 
 -- The entry and the places of a way lie within their nodes.
 abbrev pub IsWithinNodes : Request → Way → Type 0

@@ -21,7 +21,8 @@ Because faults_old faults_new damage_old damage_new (Some d) = (faults_new ≡ f
 
 -- A call that answered Ok left the count and the damage as they were, and one that answered a fault has its cause. `damage_of` is the
 -- damage that a fault tells.
-pub record TellsCause {T E : Type 0} (damage_of : E → Option Damage) (result : Result T E) (faults_old faults_new : ℕ) (damage_old damage_new : Option Damage) : Type 0 where
+pub record TellsCause {T E : Type 0} (damage_of : E → Option Damage) (result : Result T E) (faults_old faults_new : ℕ)
+    (damage_old damage_new : Option Damage) : Type 0 where
   pub later : faults_old ≤ faults_new
   pub passed : OnOk result ((faults_new ≡ faults_old) × (damage_new ≡ damage_old))
   pub failed : (fault : E) → result ≡ Err fault → Because faults_old faults_new damage_old damage_new (damage_of fault)

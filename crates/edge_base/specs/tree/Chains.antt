@@ -9,4 +9,5 @@ use Rattle.edge_base.specs.layout.Places.{pointers_of}
 abbrev pub is_on_chain : Request → Form → ℕ → ℕ → Bool
 is_on_chain g Plain k i = i == k
 is_on_chain g Indirect k i = not (nat_lt i g.direct) && ((i - g.direct) / pointers_of g == k)
-is_on_chain g Double k i = not (nat_lt i g.direct) && (not (nat_lt ((i - g.direct) / pointers_of g) g.indirect) && (((i - g.direct) / pointers_of g - g.indirect) / pointers_of g == k))
+is_on_chain g Double k i = not (nat_lt i g.direct) && (not (nat_lt ((i - g.direct) / pointers_of g) g.indirect)
+    && (((i - g.direct) / pointers_of g - g.indirect) / pointers_of g == k))

@@ -6,7 +6,8 @@ use Rattle.edge_base.specs.declared.node.NodeType.{NodeType}
 use Rattle.edge_base.specs.declared.node.NodeType.TheVariants.{File, Directory}
 use Rattle.edge_base.specs.tree.Slots.{Slots, slot_blocks, slots_of_block, slot_bytes}
 
--- A file is its bytes, and for each of its blocks whether it is present. A directory is its slots and the number of the directory that names it, 0 for the root.
+-- A file is its bytes, and for each of its blocks whether it is present. A directory is its slots and the number of the directory that names it, 0 for the
+-- root.
 pub data Node : Type 0 where
   file : List ℕ → List Bool → Node
   directory : Slots → ℕ → Node

@@ -85,7 +85,8 @@ count_of ps = distinct_count same_position ps
 
 -- ---- dirty positions: those written since the last point
 
--- What a change touches: the data positions that it writes or adds, and the ancestors of those that it adds, removes, or writes where they were not dirty. (A position that is added was not dirty.)
+-- What a change touches: the data positions that it writes or adds, and the ancestors of those that it adds, removes, or writes where they were not dirty. (A
+-- position that is added was not dirty.)
 abbrev pub touched : Request → (Position → Bool) → List Position → List Position → List Position
 touched g is_dirty writes removes = writes ++ all_ancestors g (removes ++ filter (λ p. not (is_dirty p)) writes)
 

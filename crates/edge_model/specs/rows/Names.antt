@@ -149,13 +149,13 @@ longest_names = record {
   tree = only_root;
   exchanges =
       says (ask.make_dir (codes "/a")) (told done) ∷
-      says (ask.make_dir (codes "/a/DDDDDDDDDDDDDDDDDDDDDDDDDDDDDDDDDDDDDDDDDDDDDDDDDDDDDDDDDDDDDDDDDDDDDDDDDDDDDDDDDDDDDDDDDDDDDDDDDDDDDDDDDDDDDDDDDDDDDDDDDDDDDDDDDDDDDDDDDDDDDDDDDDDDDDDDDDDDDDDDDDDDDDDDDDDDDDDDDDDDDDDDDDDDDDDDDDDDDDDDDDDDDDDDDDDDDDDDDDDDDDDDDDDDDDDDDDDDDDDDDDDDDDDDDD")) (told done) ∷
+      says (ask.make_dir (codes "/a/" ++ replicate 250 68)) (told done) ∷
       says (ask.make_dir (codes "/bbbbbbbbbb")) (told done) ∷
       says (ask.rename (codes "/a") (codes "/bbbbbbbbbb/a")) (told done) ∷
       says (ask.stat (codes "/")) (told (stated 2 Directory 512 1)) ∷
       says (ask.stat (codes "/bbbbbbbbbb")) (told (stated 5 Directory 512 1)) ∷
       says (ask.stat (codes "/bbbbbbbbbb/a")) (told (stated 3 Directory 512 1)) ∷
-      says (ask.stat (codes "/bbbbbbbbbb/a/DDDDDDDDDDDDDDDDDDDDDDDDDDDDDDDDDDDDDDDDDDDDDDDDDDDDDDDDDDDDDDDDDDDDDDDDDDDDDDDDDDDDDDDDDDDDDDDDDDDDDDDDDDDDDDDDDDDDDDDDDDDDDDDDDDDDDDDDDDDDDDDDDDDDDDDDDDDDDDDDDDDDDDDDDDDDDDDDDDDDDDDDDDDDDDDDDDDDDDDDDDDDDDDDDDDDDDDDDDDDDDDDDDDDDDDDDDDDDDDDDDDDDDDDDD")) (no NameTooLong) ∷
+      says (ask.stat (codes "/bbbbbbbbbb/a/" ++ replicate 250 68)) (no NameTooLong) ∷
       [];
   points = 1;
 }

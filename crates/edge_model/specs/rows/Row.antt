@@ -102,7 +102,8 @@ crowded = with_node (with_node only_root 3 (Some (file [] []))) 2 (Some (directo
 
 -- 65,535 slots of the root name one file
 abbrev pub many_names : Tree
-many_names = with_node (with_node only_root 3 (Some (file [] []))) 2 (Some (directory (Some (record { name = codes "a"; number = 3 }) ∷ replicate 65534 (Some (record { name = codes "b"; number = 3 }))) 0))
+many_names = with_node (with_node only_root 3 (Some (file [] []))) 2
+    (Some (directory (Some (record { name = codes "a"; number = 3 }) ∷ replicate 65534 (Some (record { name = codes "b"; number = 3 }))) 0))
 
 -- flags by their letters
 abbrev pub r : OpenFlags
