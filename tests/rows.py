@@ -8,6 +8,7 @@ import sys
 import tempfile
 import zlib
 
+from rows_cache import bitmap_told, cache_told, in_turn
 from rows_model import (
     Disk, Fails, Fault, HostDisk, HostFolder, Row, Run, Unknown, bad_geometry, escaped, imap_node,
     imap_pairs, inode, master, metaroot, number, order_of, sealed, table, unescaped)
@@ -210,6 +211,12 @@ class Table:
         bits[:1] = bytes([turn % 256])[:len(bits)]
         yield "  " + {"first_zero_from": least, "free_in": least, "count": str(counted - zeros), "counts_in": str(zeros),
                       "check_word": f"{zlib.crc32(bits):08x}"}[call]
+
+    def do_cache(self, row, text, failing, blocks, size, *calls):
+        yield from in_turn(failing, lambda call: cache_told(blocks, size, call, calls))
+
+    def do_bitmap(self, row, text, failing, blocks, *calls):
+        yield from in_turn(failing, lambda call: bitmap_told(call, blocks, calls))
 
     def do_imap_search(self, row, text, what, blocks, count, takes):
         blocks, count, takes = int(blocks), int(count), int(takes)

@@ -7,6 +7,3 @@ mod shelf;
 
 pub use cache::Cache;
 pub use shelf::BUFFERS;
-
-#[cfg(test)]
-mod tests;

@@ -23,6 +23,3 @@ pub use laws::{
     the_spare_place_is_not_live, the_spare_place_is_of_the_nodes,
 };
 pub use room::Room;
-
-#[cfg(test)]
-mod tests;

@@ -3,13 +3,16 @@
 //! `docs/TESTING.md` has the statements.
 #![tactic(auto)]
 
+mod bitmap;
 mod bits;
+mod cache;
 mod front;
 mod numbers;
 mod reply;
 mod row;
 mod script;
 mod search;
+mod turns;
 
 use crate::row::answer_row;
 use anyhow::{Context, Result};

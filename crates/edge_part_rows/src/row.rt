@@ -3,6 +3,7 @@ use crate::numbers::push_numbers;
 use crate::reply::push_reply;
 use crate::script::{push_command, push_word};
 use crate::search::push_search;
+use crate::turns::{Part, push_turns};
 use anyhow::{Context, Result, bail};
 use edge_statement::unescaped;
 use std::alloc::Global;
@@ -46,6 +47,8 @@ fn push_answer(
         "word" => push_word(alloc, out, text),
         "reply" => push_reply(alloc, out, script, &words),
         "bits" => push_bits(alloc, out, &words),
+        "cache" => push_turns(alloc, out, Part::Cache, &words),
+        "bitmap" => push_turns(alloc, out, Part::Bitmap, &words),
         "imap_search" => push_search(alloc, out, &words),
         "numbers" => push_numbers(out),
         _ => bail!("no statement: {verb}"),

@@ -12,8 +12,8 @@ use edge_nodes::encode_imap;
 use edge_statement::{number32, word};
 use std::alloc::Global;
 
-// The bits of an imap node of 512 bytes that has as many as it could.
-const PER_NODE: u32 = 3968;
+/// The bits of an imap node of 512 bytes that has as many as it could.
+pub const PER_NODE: u32 = 3968;
 
 // Some bits: so many from one on, each so far from the one before.
 #[derive(Clone, Copy)]
@@ -59,8 +59,8 @@ pub fn push_search(alloc: Global, out: &mut String, words: &[&str]) -> Result<()
     Ok(())
 }
 
-// So many blocks of 512 bytes.
-fn geometry_of(blocks: u32) -> Result<Geometry>
+/// So many blocks of 512 bytes.
+pub fn geometry_of(blocks: u32) -> Result<Geometry>
     ensures { IfOk result (λ g. g.block_size ≡ 512) }
 {
     let request = Request {

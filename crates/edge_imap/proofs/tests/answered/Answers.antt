@@ -1,6 +1,0 @@
-use Rattle.std.proofs.Common.{◌+◌, arith}
-use Rattle.edge_imap.proofs.ZeroLaws.{zero_bits}
-use Rattle.edge_imap.proofs.tests.answered.Goals as goal
-
-pub load-requires-clause-bits : goal.load-requires-clause-bits
-load-requires-clause-bits c = record { len = omega (arith, c.requires.size); unused = λ i from to. zero_bits 480 i }

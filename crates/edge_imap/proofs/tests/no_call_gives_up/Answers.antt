@@ -1,6 +1,0 @@
-use Rattle.std.proofs.Common.{◌+◌, arith}
-use Rattle.edge_imap.proofs.ZeroLaws.{zero_bits}
-use Rattle.edge_imap.proofs.tests.no_call_gives_up.Goals as goal
-
-pub load-requires-clause-bits : goal.load-requires-clause-bits
-load-requires-clause-bits g c = record { len = omega (arith, c.in_ok-g.ensures.size); unused = λ i from to. zero_bits 480 i }

@@ -1,5 +1,0 @@
-use Rattle.std.proofs.Common.{◌≡◌}
-use Rattle.edge_imap.proofs.tests.read_others.Given as goal
-
-abbrev pub invariant-loop-block : goal.invariant-loop-block
-invariant-loop-block g l = g.D.Disk.origin l.cache.disk ≡ g.D.Disk.origin l.fn.cache.disk
