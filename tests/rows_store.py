@@ -291,6 +291,16 @@ class StoreTable:
     def do_size(self, s, n):
         return s.sizes[self.node(s, n)]
 
+    def do_place(self, s, n):
+        return s.place(self.node(s, n))
+
+    def do_forget(self, s, n):
+        del s.sizes[self.node(s, n)], s.held[int(n)]
+        return "done"
+
+    def do_inodes(self, s):
+        return len(s.numbers) - len(s.sizes)
+
     def do_free(self, s):
         now, after = s.free()
         return f"{len(now)} now, {len(after)} after"

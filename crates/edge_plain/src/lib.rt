@@ -5,8 +5,6 @@ mod laws;
 mod plain;
 mod plain_view;
 mod rows;
-#[cfg(test)]
-mod tests;
 
 pub use laws::{inodes_lie_at_their_first_places, no_call_fails};
 pub use plain::PlainStore;

@@ -52,7 +52,7 @@ fn push_answer<S: Store>(alloc: Global, out: &mut String, s: &mut S, words: &[&s
     }
     let told = match word(words, 0)? {
         "read" => return push_read(alloc, out, s, words),
-        "file" | "size" | "free" | "point" => ask_space(s, words)?,
+        "file" | "size" | "place" | "forget" | "inodes" | "free" | "point" => ask_space(s, words)?,
         "take" | "entry" | "pointer" | "drop" => ask_by_hand(s, words)?,
         "fresh" | "fits" => ask_change(s, words)?,
         "write" | "fill" | "grow" | "resize" => ask_bytes(alloc, s, words)?,

@@ -1,7 +1,7 @@
 ghost use Rattle.edge_store.specs.State.{IsLive};
 
 use crate::answer::Answer;
-use crate::there::may_have;
+use crate::there::{is_there, may_have};
 use anyhow::{Result as Told, bail};
 use edge_base::{Head, NodeType};
 use edge_statement::{number32, word};
@@ -17,6 +17,9 @@ pub fn ask_space<S: Store>(s: &mut S, words: &[&str]) -> Told<Result<Answer, Sto
     Ok(match word(words, 0)? {
         "file" => new_file(s, word(words, 1)?.parse::<u64>()?),
         "size" => size(s, number32(words, 1)?),
+        "place" => place(s, number32(words, 1)?),
+        "forget" => forget(s, number32(words, 1)?),
+        "inodes" => Ok(Answer::Number(u64::from(s.free_inodes()))),
         "free" => Ok(Answer::Free(s.free())),
         "point" => point(s),
         verb => bail!("no statement: {verb}"),
@@ -48,6 +51,25 @@ fn size<S: Store>(s: &mut S, n: u32) -> Result<Answer, StoreFault>
         Some(head) => Answer::Number(head.size),
         None => Answer::Nothing,
     })
+}
+
+fn place<S: Store>(s: &mut S, n: u32) -> Result<Answer, StoreFault>
+    requires { IsLive (S.state s.old) }
+{
+    if !is_there(s, n)? {
+        return Ok(Answer::Nothing);
+    }
+    Ok(Answer::Number(u64::from(s.inode_block(n)?)))
+}
+
+fn forget<S: Store>(s: &mut S, n: u32) -> Result<Answer, StoreFault>
+    requires { IsLive (S.state s.old) }
+{
+    if !is_there(s, n)? {
+        return Ok(Answer::Nothing);
+    }
+    s.drop_inode(n)?;
+    Ok(Answer::Done)
 }
 
 fn point<S: Store>(s: &mut S) -> Result<Answer, StoreFault>
