@@ -27,17 +27,48 @@ pub fn cache_told(alloc: Global, words: &[&str], failing: Option<u64>) -> Result
     let ends = calls.iter().position(|call| *call == "end");
     let (before, behind) = calls.split_at(ends.unwrap_or(calls.len()));
     let mut cache = cache_of(alloc, shape, failing)?;
-    for call in before {
-        let words: Vec<&str> = call.split(':').collect(alloc)?;
-        push_call(alloc, &mut out, &mut cache, shape, &words)?;
-    }
+    push_calls(alloc, &mut out, &mut cache, shape, before)?;
     let mut disk = cache.end();
     write!(out, " {} calls", disk.calls())?;
-    for call in behind.iter().skip(1) {
-        let words: Vec<&str> = call.split(':').collect(alloc)?;
-        push_shown(alloc, &mut out, &mut disk, shape, &words)?;
-    }
+    push_shows(alloc, &mut out, &mut disk, shape, behind)?;
     Ok(out)
+}
+
+// Makes the calls in turn.
+fn push_calls<D: Disk>(
+    alloc: Global,
+    out: &mut String,
+    cache: &mut Cache<D>,
+    shape: Shape,
+    calls: &[&str],
+) -> Result<()>
+    requires blocks { (D.origin cache.old.disk).blocks ≡ shape.blocks }
+    requires size { (D.origin cache.old.disk).block_size ≡ shape.size }
+    ensures origin { D.origin cache.new.disk ≡ D.origin cache.old.disk }
+{
+    for call in calls {
+        let words: Vec<&str> = call.split(':').collect(alloc)?;
+        push_call(alloc, out, cache, shape, &words)?;
+    }
+    Ok(())
+}
+
+// The same of what the disk shows, behind the first word.
+fn push_shows<D: Disk>(
+    alloc: Global,
+    out: &mut String,
+    disk: &mut D,
+    shape: Shape,
+    calls: &[&str],
+) -> Result<()>
+    requires blocks { (D.origin disk.old).blocks ≡ shape.blocks }
+    requires size { (D.origin disk.old).block_size ≡ shape.size }
+{
+    for call in calls.iter().skip(1) {
+        let words: Vec<&str> = call.split(':').collect(alloc)?;
+        push_shown(alloc, out, disk, shape, &words)?;
+    }
+    Ok(())
 }
 
 // A cache over a disk of sevens.
@@ -180,13 +211,16 @@ fn push_change<D: Disk>(
     requires size { (D.origin cache.old.disk).block_size ≡ shape.size }
     ensures origin { D.origin cache.new.disk ≡ D.origin cache.old.disk }
 {
-    let count = number32(words, 1)?;
-    ensure!(count <= shape.blocks && 200 < shape.size, "no such blocks");
+    let count = word(words, 1)?.parse::<u8>()?;
+    ensure!(
+        u32::from(count) <= shape.blocks && 200 < shape.size,
+        "no such blocks"
+    );
     let mut failed = 0u32;
     for b in 0..count {
-        if cache.write(b, 100, &[b as u8], false).is_err() {
+        if cache.write(u32::from(b), 100, &[b], false).is_err() {
             failed = failed.saturating_add(1);
-            let _again = cache.write(b, 100, &[b as u8], false);
+            let _again = cache.write(u32::from(b), 100, &[b], false);
         }
     }
     push_failed(out, failed)
@@ -258,21 +292,21 @@ fn push_shown<D: Disk>(
             let bytes = block.get(at..).and_then(|rest| rest.get(..count));
             push_bytes(out, bytes.context("beyond the block")?)
         }
-        "changed" => push_changed(out, disk, number32(words, 1)?, &mut block),
+        "changed" => push_changed(out, disk, word(words, 1)?.parse::<u8>()?, &mut block),
         verb => bail!("nothing to tell: {verb}"),
     }
 }
 
 // Appends how many of the first blocks have their number as byte 100, between sevens.
-fn push_changed<D: Disk>(out: &mut String, disk: &mut D, count: u32, block: &mut [u8]) -> Result<()>
+fn push_changed<D: Disk>(out: &mut String, disk: &mut D, count: u8, block: &mut [u8]) -> Result<()>
     requires size { length block.old ≡ (D.origin disk.old).block_size }
     ensures origin { D.origin disk.new ≡ D.origin disk.old }
 {
-    ensure!(count <= disk.blocks(), "no such blocks");
+    ensure!(u32::from(count) <= disk.blocks(), "no such blocks");
     let mut changed = 0u32;
     for b in 0..count {
-        disk.read(b, block)?;
-        if block.get(99..102) == Some(&[7, b as u8, 7]) {
+        disk.read(u32::from(b), block)?;
+        if block.get(99..102) == Some(&[7, b, 7]) {
             changed = changed.saturating_add(1);
         }
     }
