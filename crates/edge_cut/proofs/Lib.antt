@@ -14,3 +14,4 @@ pub mod SizeLaws
 pub mod StepLaws
 pub mod NodeLaws
 pub mod FromLaws
+pub mod FullLaws

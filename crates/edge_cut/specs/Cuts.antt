@@ -19,7 +19,7 @@ use Rattle.edge_shape.specs.Steps.{Steps}
 use Rattle.edge_shape.specs.Where.{cut_at, need_of, cut_need, GoesThrough}
 use Rattle.edge_shape.specs.Trees.{in_tree, IsSoundTree, IsSoundInode}
 use Rattle.edge_shape.specs.Cutting.{CutPlaces, CutEntries}
-use Rattle.edge_cut.specs.Dropped.{without, IsAtEntry, StaysLinked, top_below, IsLost, IsHollow}
+use Rattle.edge_cut.specs.Dropped.{without, IsAtEntry, StaysLinked, top_below, IsLost, IsHollow, IsFull, IsFullInode}
 
 -- ---- what is asked
 
@@ -72,6 +72,10 @@ NeverOnSoundInode s n from result = Told s → IsSoundInode s.origin.request s.w
 abbrev pub DropsTree : StoreState → StoreState → Spot → Type 0
 DropsTree old new spot = Told old → new.working ≡ without old.working (in_tree old.working spot.form spot.block)
 
+-- each pointer node of it had a pointer
+abbrev pub IsFullSpot : StoreState → Spot → Type 0
+IsFullSpot s spot = Told s → IsFull s.working spot.form spot.block
+
 abbrev pub KeepsBlock : StoreState → StoreState → ℕ → Type 0
 KeepsBlock old new b = Told old → new.working.blocks b ≡ old.working.blocks b
 
@@ -87,6 +91,10 @@ CutsPlaces old new at from = Told old → IsSoundTree old.origin.request old.wor
 abbrev pub CutsEntries : StoreState → StoreState → ℕ → ℕ → Type 0
 CutsEntries old new n from = Told old → IsSoundInode old.origin.request old.working n from
     → CutEntries old.origin.request old.working new.working n from (entries_of old.origin.request)
+
+-- each pointer node had a pointer that hung under them
+abbrev pub AreFullEntries : StoreState → ℕ → ℕ → Type 0
+AreFullEntries s n from = Told s → IsFullInode s.origin.request s.working n from
 
 -- ---- a cut of a node
 

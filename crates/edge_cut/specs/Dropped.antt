@@ -1,5 +1,6 @@
 -- Blocks taken out of a view, and links that last while that is done.
-use Rattle.std.specs.Prelude.{◌≡◌, ◌≢◌, ◌<◌, ℕ, Bool, true, if◌then◌else◌, slice_index, None}
+use Rattle.std.specs.Prelude.{◌≡◌, ◌≢◌, ◌<◌, ◌≤◌, ◌==◌, ℕ, not, Bool, true, if◌then◌else◌, slice_index, None}
+use Rattle.std.specs.List.{list_any}
 use Rattle.edge_base.specs.declared.form.Form.{Form}
 use Rattle.edge_base.specs.declared.form.Form.TheVariants.{Plain, Indirect, Double}
 use Rattle.edge_base.specs.declared.geometry.Request.{Request}
@@ -44,3 +45,20 @@ pub record IsHollow (g : Request) (v : View) (n : ℕ) (form : Form) (b : ℕ) :
   pub linked : IsLinked g v n form b
   pub spot : is_spot v form n b ≡ true
   pub none : (i : ℕ) → slice_index (entries_in (content_at v form b)) i ≡ 0
+
+-- ---- pointers that are there
+
+-- whether a block that is read as a pointer node has a pointer
+abbrev pub has_pointer : View → Form → ℕ → Bool
+has_pointer v form b = list_any (λ c. not (c == 0)) (entries_in (content_at v form b))
+
+-- Each pointer node that hangs under a block, itself among them, has a pointer.
+abbrev pub IsFull : View → Form → ℕ → Type 0
+IsFull v Plain b = Unit {0}
+IsFull v Indirect b = has_pointer v Indirect b ≡ true
+IsFull v Double b = (has_pointer v Double b ≡ true)
+    × ((k : ℕ) → slice_index (entries_in (content_at v Double b)) k ≢ 0 → has_pointer v Indirect (slice_index (entries_in (content_at v Double b)) k) ≡ true)
+
+-- The same of all that hangs under the entries of node n from one on.
+abbrev pub IsFullInode : Request → View → ℕ → ℕ → Type 0
+IsFullInode g v n from = (e : ℕ) → from ≤ e → e < entries_of g → entry_at v n e ≢ 0 → IsFull v (form_of_entry g e) (entry_at v n e)

@@ -6,8 +6,9 @@ ghost use Rattle.edge_store.specs.Damages.{form_of_entry};
 ghost use Rattle.edge_store.specs.State.{IsLive, IsNumber, IsAllocable, HasInode, IsNew};
 ghost use Rattle.edge_shape.specs.declared.cut.Cut.TheVariants.{Both};
 ghost use Rattle.edge_tree.specs.Answers.{TellsWhatIs, IsReadable};
-ghost use Rattle.edge_tree.specs.Own.{RoomForUnder, UntangledIf, UndamagedIf, IsNodeTidy, IsNodeShaped, KeepsHeads};
+ghost use Rattle.edge_tree.specs.Own.{RoomForUnder, TellsTangleOf, UntangledIf, UndamagedIf, IsNodeTidy, IsNodeShaped, KeepsHeads};
 ghost use Rattle.edge_cut.specs.Cuts.{node_cut, IsTopOf, IsTopSpot, StaysUnder, RenewsPair, RoomForCut, RoomForCutAt, NeverOnCut, TakesSteps, TakesStepsAt, CutsFrom};
+ghost use Rattle.edge_cut.specs.Through.{IsSomeOnWayTo, IsFullGone};
 
 use crate::entries::cut_entries;
 use crate::places::{cut_places, drop_below};
@@ -38,6 +39,7 @@ fn cut_node<S: Store>(
     ensures damage { TellsWhatIs (S.state s.old) (S.state s.new) result }
     ensures untangled { UntangledIf (S.state s.old)
         (RoomForCut (S.state s.old) n (node_cut form entry place)) result }
+    ensures tangled { TellsTangleOf (S.state s.old) (S.state s.new) n result }
     ensures undamaged { NeverOnCut (S.state s.old) n (node_cut form entry place) result }
     ensures heads { OnOk result (KeepsHeads (S.state s.old) (S.state s.new) n) }
     ensures there { OnOk result (HasInode (S.state s.new) n) }
@@ -76,6 +78,7 @@ fn own_pair<S: Store>(s: &mut S, n: u32, entry: u32, outer: u32) -> Result<Pair,
     ensures damage { TellsWhatIs (S.state s.old) (S.state s.new) result }
     ensures untangled { UntangledIf (S.state s.old)
         (RoomForUnder (S.state s.old) n entry outer) result }
+    ensures tangled { TellsTangleOf (S.state s.old) (S.state s.new) n result }
     ensures undamaged { UndamagedIf (S.state s.old)
         (IsNodeTidy (S.state s.old) n) (RoomForUnder (S.state s.old) n entry outer) result }
     ensures top { IfOk result (λ pair. IsAllocable (S.state s.old) pair.top) }
@@ -120,6 +123,7 @@ fn cut_pair<S: Store>(
     ensures damage { TellsWhatIs (S.state s.old) (S.state s.new) result }
     ensures untangled { UntangledIf (S.state s.old)
         (RoomForCut (S.state s.old) n (Both entry outer place)) result }
+    ensures tangled { TellsTangleOf (S.state s.old) (S.state s.new) n result }
     ensures undamaged { NeverOnCut (S.state s.old) n (Both entry outer place) result }
     ensures heads { OnOk result (KeepsHeads (S.state s.old) (S.state s.new) n) }
     ensures there { OnOk result (HasInode (S.state s.new) n) }
@@ -160,12 +164,15 @@ pub fn cut_from<S: Store>(s: &mut S, n: u32, i: u32) -> Result<(), StoreFault>
     ensures places { OnOk result (KeepsPlacesBut (S.state s.old) (S.state s.new) n) }
     ensures damage { TellsWhatIs (S.state s.old) (S.state s.new) result }
     ensures untangled { UntangledIf (S.state s.old) (RoomForCutAt (S.state s.old) n i) result }
+    ensures tangled { TellsTangleOf (S.state s.old) (S.state s.new) n result }
     ensures undamaged { UndamagedIf (S.state s.old)
         (IsNodeShaped (S.state s.old) n) (RoomForCutAt (S.state s.old) n i) result }
     ensures heads { OnOk result (KeepsHeads (S.state s.old) (S.state s.new) n) }
     ensures there { OnOk result (HasInode (S.state s.new) n) }
     ensures steps { OnOk result (TakesStepsAt (S.state s.old) (S.state s.new) n i) }
     ensures cut { OnOk result (CutsFrom (S.state s.old) (S.state s.new) n i) }
+    ensures some { OnOk result (IsSomeOnWayTo (S.state s.old) n i) }
+    ensures full { OnOk result (IsFullGone (S.state s.old) n i) }
 {
     match cut_through(s, n, i)? {
         Cut::Whole { entry } => cut_entries(s, n, entry),

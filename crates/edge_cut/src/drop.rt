@@ -7,7 +7,7 @@ ghost use Rattle.edge_store.specs.Damages.{form_under};
 ghost use Rattle.edge_store.specs.State.{IsLive, IsNumber, IsAllocable};
 ghost use Rattle.edge_store.specs.Told.{DropsBlock};
 ghost use Rattle.edge_tree.specs.Answers.{TellsWhatIs, NeverTangled, NeverOnShaped, IsLinkedSpot, IsReadable, IsSpotOf};
-ghost use Rattle.edge_cut.specs.Cuts.{NeverOnSpot, HangsBeside, IsTopOf, LosesBlock, IsHollowSpot, NeverOnSoundTree, DropsTree, KeepsBlock};
+ghost use Rattle.edge_cut.specs.Cuts.{NeverOnSpot, HangsBeside, IsTopOf, LosesBlock, IsHollowSpot, NeverOnSoundTree, DropsTree, IsFullSpot, KeepsBlock};
 ghost use Rattle.edge_cut.specs.Dropped.{top_below};
 
 use edge_base::{Damage, DamageKind, Form};
@@ -119,6 +119,7 @@ pub(crate) fn drop_tree<S: Store>(s: &mut S, at: Spot, top: u32) -> Result<(), S
     ensures spot { OnOk result (IsSpotOf (S.state s.old) at) }
     ensures kept { OnOk result (KeepsBlock (S.state s.old) (S.state s.new) top) }
     ensures dropped { OnOk result (DropsTree (S.state s.old) (S.state s.new) at) }
+    ensures full { OnOk result (IsFullSpot (S.state s.old) at) }
 {
     if at.form == Form::Plain {
         return drop_one(s, at, top);

@@ -5,7 +5,7 @@ ghost use Rattle.edge_store.specs.Damages.{form_of_entry};
 ghost use Rattle.edge_store.specs.State.{IsLive, IsNumber, HasInode};
 ghost use Rattle.edge_tree.specs.Answers.{TellsWhatIs, NeverTangled};
 ghost use Rattle.edge_tree.specs.Own.{KeepsHeads};
-ghost use Rattle.edge_cut.specs.Cuts.{NeverOnSoundInode, CutsEntries};
+ghost use Rattle.edge_cut.specs.Cuts.{NeverOnSoundInode, CutsEntries, AreFullEntries};
 
 use crate::drop::drop_tree;
 use edge_base::Form;
@@ -48,6 +48,7 @@ pub(crate) fn cut_entries<S: Store>(s: &mut S, n: u32, from: u32) -> Result<(), 
     ensures heads { OnOk result (KeepsHeads (S.state s.old) (S.state s.new) n) }
     ensures there { OnOk result (HasInode (S.state s.new) n) }
     ensures cut { OnOk result (CutsEntries (S.state s.old) (S.state s.new) n from) }
+    ensures full { OnOk result (AreFullEntries (S.state s.old) n from) }
 {
     for e in from..entries(s) {
         let block = entry_link(s, n, e)?;

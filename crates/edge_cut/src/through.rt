@@ -8,7 +8,7 @@ ghost use Rattle.edge_store.specs.Damages.{form_of_entry};
 ghost use Rattle.edge_store.specs.State.{IsLive, IsNumber, IsAllocable, IsLink, HasInode};
 ghost use Rattle.edge_shape.specs.Where.{through, between_double};
 ghost use Rattle.edge_tree.specs.Answers.{TellsWhatIs, NeverTangled, NeverOnShaped, IsLinkedTo, IsLinkedSpot, IsSpotOf, IsReadable};
-ghost use Rattle.edge_cut.specs.Through.{IsSomeIn, IsAbsentAt, IsKeptOfInner, IsCutOfInner, IsCutOfWay, IsCutAt, IsInRange, GoesThroughThere};
+ghost use Rattle.edge_cut.specs.Through.{IsSomeIn, IsAbsentAt, IsKeptOfInner, IsCutOfInner, IsCutOfWay, IsCutAt, IsInRange, GoesThroughThere, HasSomeAt, HasSomeWithin, IsSomeOnWay, IsSomeOnWayTo};
 
 use crate::drop::{hollow, pointers};
 use crate::entries::entries;
@@ -73,6 +73,7 @@ fn sides_of<S: Store>(s: &mut S, at: Spot, place: u32) -> Result<Sides, StoreFau
     ensures kept { IfOk result (λ sides. IsSomeIn (S.state s.old) at 0 place sides.kept) }
     ensures cut { IfOk result (λ sides. IsSomeIn (S.state s.old) at place
         (pointers_of (S.state s.old).origin.request) sides.cut) }
+    ensures some { OnOk result (HasSomeAt (S.state s.old) at) }
 {
     let kept = has_some(s, at, 0, place)?;
     let end = pointers(s);
@@ -102,6 +103,7 @@ fn single<S: Store>(s: &mut S, n: u32, entry: u32, place: u32) -> Result<Cut, St
     ensures undamaged { NeverOnShaped (S.state s.old) n result }
     ensures range { IfOk result (IsInRange (S.state s.old)) }
     ensures cut { IfOk result (IsCutOfWay (S.state s.old) n (Single entry place)) }
+    ensures some { OnOk result (IsSomeOnWay (S.state s.old) n (Single entry place)) }
 {
     if place == 0 {
         return Ok(Cut::Whole { entry });
@@ -144,6 +146,7 @@ fn inner<S: Store>(s: &mut S, n: u32, block: u32, place: u32) -> Result<Sides, S
     ensures undamaged { NeverOnShaped (S.state s.old) n result }
     ensures kept { IfOk result (λ sides. IsKeptOfInner (S.state s.old) block place sides.kept) }
     ensures cut { IfOk result (λ sides. IsCutOfInner (S.state s.old) block place sides.cut) }
+    ensures some { OnOk result (HasSomeWithin (S.state s.old) block place) }
 {
     if block == 0 {
         return Ok(Sides {
@@ -189,6 +192,7 @@ fn beside<S: Store>(s: &mut S, at: Spot, outer: u32, absent: bool) -> Result<Sid
     ensures kept { IfOk result (λ sides. IsSomeIn (S.state s.old) at 0 outer sides.kept) }
     ensures cut { IfOk result (λ sides. IsSomeIn (S.state s.old) at (outer + 1)
         (pointers_of (S.state s.old).origin.request) sides.cut) }
+    ensures some { OnOk result (HasSomeAt (S.state s.old) at) }
 {
     let kept = has_some(s, at, 0, outer)?;
     let end = pointers(s);
@@ -253,6 +257,7 @@ fn double<S: Store>(
     ensures undamaged { NeverOnShaped (S.state s.old) n result }
     ensures range { IfOk result (IsInRange (S.state s.old)) }
     ensures cut { IfOk result (IsCutOfWay (S.state s.old) n (Double entry outer place)) }
+    ensures some { OnOk result (IsSomeOnWay (S.state s.old) n (Double entry outer place)) }
 {
     let block = entry_link(s, n, entry)?;
     if block == 0 {
@@ -288,6 +293,7 @@ pub(crate) fn cut_through<S: Store>(s: &mut S, n: u32, i: u32) -> Result<Cut, St
     ensures range { IfOk result (IsInRange (S.state s.old)) }
     ensures cut { IfOk result (IsCutAt (S.state s.old) n i) }
     ensures within { IfOk result (GoesThroughThere (S.state s.old) n) }
+    ensures some { OnOk result (IsSomeOnWayTo (S.state s.old) n i) }
 {
     let g = s.geometry();
     if i == g.max_blocks() {

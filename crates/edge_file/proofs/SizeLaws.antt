@@ -99,6 +99,10 @@ module _ (old mid : StoreState) (n size count : ℕ) (origin : mid.origin ≡ ol
       let left = room_left old.origin.request old.working n size shaped.indices shape old.committed mid.working (view_mid told) is_m first (stays told) room in
       room_too old.origin mid.origin old.committed mid.committed mid.working n count (pieces old.origin.request.block_size size) origin committed is (shaped_by old.origin.request mid.working n shaped.indices shape_mid).0 left
 
+pub shortens_from : (old mid : StoreState) (n size : ℕ) → mid.origin ≡ old.origin → mid.working ≡ old.working → mid.committed ≡ old.committed
+    → IsNodeShaped old n → RoomToShorten old n size → IsNodeShaped mid n × RoomToShorten mid n size
+shortens_from old mid n size origin working committed shaped room = rw (origin, working, committed) (shaped, room)
+
 -- ---- it gets its size
 
 pub same_blocks : (v w : View) (n : ℕ) (head : Head) → HeadSet v w n head → SameBlocks v w n

@@ -1,10 +1,10 @@
 -- One more piece of a run of bytes is written.
-use Rattle.std.proofs.Common.{◌≡◌, ℕ, ◌+◌, ◌-◌, ◌*◌, ◌/◌, ◌%◌, ◌<◌, ◌≤◌, true, inl, inr, List, [], ◌++◌, length, refl, sym, ap, ◌∙◌, subst, arith}
+use Rattle.std.proofs.Common.{◌≡◌, ℕ, ◌+◌, ◌-◌, ◌*◌, ◌/◌, ◌%◌, ◌<◌, ◌≤◌, true, inl, inr, List, [], ◌∷◌, ◌++◌, length, refl, sym, ap, ◌∙◌, subst, arith}
 use Rattle.std.specs.Prelude.{Result, Ok}
 use Rattle.std.proofs.lemmas.Bool.{cases_eq}
 use Rattle.std.proofs.lemmas.Nat.{div-add-mod'}
 use Rattle.edge_base.specs.declared.geometry.Request.{Request}
-use Rattle.edge_base.specs.layout.Places.{IsGeometry, pointers_of}
+use Rattle.edge_base.specs.layout.Places.{IsGeometry, pointers_of, max_blocks_of}
 use Rattle.edge_base.specs.outside.Below.{Origin}
 use Rattle.edge_store.specs.declared.fault.StoreFault.{StoreFault}
 use Rattle.edge_store.specs.Calls.{Called, KeepsPoint, KeepsPlacesBut}
@@ -15,10 +15,13 @@ use Rattle.edge_store.proofs.ViewLaws.{head_of_whole, some_of_whole}
 use Rattle.edge_moves.proofs.SlotLaws.{entries_fit, some_pointers_fit}
 use Rattle.edge_moves.proofs.SpentLaws.{whole_by_head}
 use Rattle.edge_tree.specs.Answers.{IsReadable}
-use Rattle.edge_tree.specs.Own.{UndamagedIf, IsNodeShaped, KeepsHeads}
+use Rattle.edge_tree.specs.Own.{RoomForChain, UntangledIf, UndamagedIf, IsNodeShaped, KeepsHeads}
 use Rattle.edge_file.specs.Bytes.{blocks_under}
 use Rattle.edge_file.specs.Rewritten.{IsWritten, fresh_on}
 use Rattle.edge_file.specs.Writing.{RoomForBytes, WritesBytes}
+use Rattle.edge_file.proofs.BlockLaws.{fresh_on-chain}
+use Rattle.edge_file.proofs.JoinLaws.{fresh_on-alike}
+use Rattle.edge_file.proofs.RangeLaws.{block_alone}
 use Rattle.edge_file.proofs.LoopLaws.{GoesOn, goes_first, goes_more, told_on, WrittenSoFar}
 use Rattle.edge_file.proofs.WriteLaws.{none_written, more_written, room_left}
 
@@ -89,10 +92,9 @@ module _ (old now : StoreState) (n at : ℕ) (a : List ℕ) (geometry : IsGeomet
       told_now : Told old → Told now
       told_now told = told_on old now so_far.goes_on told
 
-  -- nothing is told of the rest of a node of a proper shape, if there was room for all
-  pub next_undamaged : {T : Type 0} (result : Result T StoreFault) (rest len : ℕ) → len ≤ rest → UndamagedIf now (IsNodeShaped now n) (RoomForBytes now n (at + length a) len) result
-      → UndamagedIf old (IsNodeShaped old n) (RoomForBytes old n at (length a + rest)) result
-  next_undamaged result rest len fewer undamaged told shaped room =
+  -- a node of a proper shape still has one, and there is room for the rest if there was room for all
+  pub next_rules : (rest len : ℕ) → len ≤ rest → Told old → IsNodeShaped old n → RoomForBytes old n at (length a + rest) → IsNodeShaped now n × RoomForBytes now n (at + length a) len
+  next_rules rest len fewer told shaped room =
       let first = so_far.written told shaped.indices shaped.places shaped.once in
       let is_v = ap is_whole shaped.inode in
       let is_m = whole_by_head (old.working.inodes n) (now.working.inodes n) (so_far.heads told).head is_v in
@@ -108,4 +110,23 @@ module _ (old now : StoreState) (n at : ℕ) (a : List ℕ) (geometry : IsGeomet
       } in
       let left : fresh_on g old.committed now.working n (blocks_under g (at + length a) len) ≤ free_now g old.committed now.working =
       room_left g old.committed old.working now.working n at a shaped.indices (entries_fit g geometry) some (some_bytes g some) (view_old told) (view_m told) is_v is_m shaped.places first rest len fewer room in
-      undamaged (told_on old now so_far.goes_on told) (rw (← request) shaped_now) (rw (← request, so_far.goes_on.point.committed) left)
+      (rw (← request) shaped_now, rw (← request, so_far.goes_on.point.committed) left)
+
+  -- nothing is told of the rest then, and no tangled node
+  pub next_undamaged : {T : Type 0} (result : Result T StoreFault) (rest len : ℕ) → len ≤ rest → UndamagedIf now (IsNodeShaped now n) (RoomForBytes now n (at + length a) len) result
+      → UndamagedIf old (IsNodeShaped old n) (RoomForBytes old n at (length a + rest)) result
+  next_undamaged result rest len fewer undamaged told shaped room =
+      let rules = next_rules rest len fewer told shaped room in undamaged (told_on old now so_far.goes_on told) rules.0 rules.1
+
+  pub next_untangled : {T : Type 0} (result : Result T StoreFault) (rest len : ℕ) → len ≤ rest → UntangledIf now (RoomForBytes now n (at + length a) len) result
+      → UntangledIf old (IsNodeShaped old n × RoomForBytes old n at (length a + rest)) result
+  next_untangled result rest len fewer untangled told rules =
+      untangled (told_on old now so_far.goes_on told) (next_rules rest len fewer told rules.0 rules.1).1
+
+-- room for bytes of one data block is room for its chain
+pub room_alone : (s : StoreState) (n i start len : ℕ) → i < max_blocks_of s.origin.request → 0 < len → start + len ≤ s.origin.request.block_size
+    → RoomForBytes s n (i * s.origin.request.block_size + start) len → RoomForChain s n i
+room_alone s n i start len low some within room =
+    let r = s.origin.request in
+    let alone = fresh_on-alike r s.committed s.working s.working n (i ∷ []) (blocks_under r (i * r.block_size + start) len) [] (block_alone r i start len low some within) in
+    subst (λ (k : ℕ). k ≤ free_now r s.committed s.working) (sym alone ∙ fresh_on-chain r s.committed s.working n i) room

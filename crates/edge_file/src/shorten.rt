@@ -4,7 +4,7 @@ ghost use Rattle.edge_store.specs.Calls.{Called, KeepsPoint, KeepsPlacesBut};
 ghost use Rattle.edge_store.specs.State.{IsLive, IsNumber, HasInode};
 ghost use Rattle.edge_store.specs.View.{is_head};
 ghost use Rattle.edge_tree.specs.Answers.{TellsWhatIs, IsReadable};
-ghost use Rattle.edge_tree.specs.Own.{UntangledIf, UndamagedIf, IsNodeShaped, KeepsHeads};
+ghost use Rattle.edge_tree.specs.Own.{TellsTangleOf, UntangledIf, UndamagedIf, IsNodeShaped, KeepsHeads};
 ghost use Rattle.edge_file.specs.Answers.{HasHead};
 ghost use Rattle.edge_file.specs.Bytes.{size_at};
 ghost use Rattle.edge_file.specs.Writing.{RoomToShorten, RoomForSize, IsNodeSized, ClearsRest, StaysWithoutRest, Shortens, ShortensTo, LengthensTo, LengthensHead, SetsSize, KeepsInodesBut};
@@ -29,6 +29,9 @@ fn clear_rest<S: Store>(s: &mut S, n: u32, size: u64) -> Result<(), StoreFault>
     ensures point { KeepsPoint (S.state s.old) (S.state s.new) }
     ensures places { OnOk result (KeepsPlacesBut (S.state s.old) (S.state s.new) n) }
     ensures damage { TellsWhatIs (S.state s.old) (S.state s.new) result }
+    ensures untangled { UntangledIf (S.state s.old) (IsNodeShaped (S.state s.old) n
+        × RoomToShorten (S.state s.old) n size) result }
+    ensures tangled { TellsTangleOf (S.state s.old) (S.state s.new) n result }
     ensures undamaged { UndamagedIf (S.state s.old) (IsNodeShaped (S.state s.old) n)
         (RoomToShorten (S.state s.old) n size) result }
     ensures heads { OnOk result (KeepsHeads (S.state s.old) (S.state s.new) n) }
@@ -56,6 +59,9 @@ fn cut_behind<S: Store>(s: &mut S, n: u32, size: u64) -> Result<(), StoreFault>
     ensures point { KeepsPoint (S.state s.old) (S.state s.new) }
     ensures places { OnOk result (KeepsPlacesBut (S.state s.old) (S.state s.new) n) }
     ensures damage { TellsWhatIs (S.state s.old) (S.state s.new) result }
+    ensures untangled { UntangledIf (S.state s.old) (IsNodeShaped (S.state s.old) n
+        × RoomToShorten (S.state s.old) n size) result }
+    ensures tangled { TellsTangleOf (S.state s.old) (S.state s.new) n result }
     ensures undamaged { UndamagedIf (S.state s.old) (IsNodeShaped (S.state s.old) n)
         (RoomToShorten (S.state s.old) n size) result }
     ensures heads { OnOk result (KeepsHeads (S.state s.old) (S.state s.new) n) }
@@ -79,6 +85,9 @@ fn shorten<S: Store>(s: &mut S, n: u32, head: Head, size: u64) -> Result<(), Sto
     ensures point { KeepsPoint (S.state s.old) (S.state s.new) }
     ensures places { OnOk result (KeepsPlacesBut (S.state s.old) (S.state s.new) n) }
     ensures damage { TellsWhatIs (S.state s.old) (S.state s.new) result }
+    ensures untangled { UntangledIf (S.state s.old) (IsNodeShaped (S.state s.old) n
+        × RoomToShorten (S.state s.old) n size) result }
+    ensures tangled { TellsTangleOf (S.state s.old) (S.state s.new) n result }
     ensures undamaged { UndamagedIf (S.state s.old) (IsNodeShaped (S.state s.old) n)
         (RoomToShorten (S.state s.old) n size) result }
     ensures inodes { OnOk result (KeepsInodesBut (S.state s.old) (S.state s.new) n) }
@@ -109,6 +118,9 @@ pub fn set_size<S: Store>(s: &mut S, n: u32, size: u64) -> Result<(), StoreFault
     ensures damage { TellsWhatIs (S.state s.old) (S.state s.new) result }
     ensures untangled { UntangledIf (S.state s.old) (size_at (S.state s.old).working n ≤ size)
         result }
+    ensures untangled_shaped { UntangledIf (S.state s.old) (IsNodeShaped (S.state s.old) n
+        × RoomForSize (S.state s.old) n size) result }
+    ensures tangled { TellsTangleOf (S.state s.old) (S.state s.new) n result }
     ensures undamaged { UndamagedIf (S.state s.old) (IsNodeSized (S.state s.old) n)
         (RoomForSize (S.state s.old) n size) result }
     ensures inodes { OnOk result (KeepsInodesBut (S.state s.old) (S.state s.new) n) }

@@ -3,7 +3,7 @@ ghost use Rattle.edge_base.specs.layout.Places.{max_blocks_of, max_size_of};
 ghost use Rattle.edge_store.specs.Calls.{Called, KeepsPoint, KeepsPlacesBut};
 ghost use Rattle.edge_store.specs.State.{IsLive, IsNumber, HasInode};
 ghost use Rattle.edge_tree.specs.Answers.{TellsWhatIs, IsReadable};
-ghost use Rattle.edge_tree.specs.Own.{UndamagedIf, IsNodeShaped, KeepsHeads};
+ghost use Rattle.edge_tree.specs.Own.{TellsTangleOf, UntangledIf, UndamagedIf, IsNodeShaped, KeepsHeads};
 ghost use Rattle.edge_file.specs.Writing.{RoomForBytes, IsNodeSized, WritesBytes, GrowsTo, KeepsInodesBut};
 
 use crate::head::sized_head;
@@ -26,6 +26,9 @@ fn overwrite_block<S: Store>(s: &mut S, n: u32, i: u32, bytes: &[u8]) -> Result<
     ensures point { KeepsPoint (S.state s.old) (S.state s.new) }
     ensures places { OnOk result (KeepsPlacesBut (S.state s.old) (S.state s.new) n) }
     ensures damage { TellsWhatIs (S.state s.old) (S.state s.new) result }
+    ensures untangled { UntangledIf (S.state s.old) (RoomForBytes (S.state s.old) n
+        (i * (S.state s.old).origin.request.block_size) (length bytes.now)) result }
+    ensures tangled { TellsTangleOf (S.state s.old) (S.state s.new) n result }
     ensures undamaged { UndamagedIf (S.state s.old) (IsNodeShaped (S.state s.old) n)
         (RoomForBytes (S.state s.old) n
         (i * (S.state s.old).origin.request.block_size) (length bytes.now)) result }
@@ -62,6 +65,9 @@ fn write_in_block<S: Store>(
     ensures point { KeepsPoint (S.state s.old) (S.state s.new) }
     ensures places { OnOk result (KeepsPlacesBut (S.state s.old) (S.state s.new) n) }
     ensures damage { TellsWhatIs (S.state s.old) (S.state s.new) result }
+    ensures untangled { UntangledIf (S.state s.old) (RoomForBytes (S.state s.old) n
+        (i * (S.state s.old).origin.request.block_size + start) (length bytes.now)) result }
+    ensures tangled { TellsTangleOf (S.state s.old) (S.state s.new) n result }
     ensures undamaged { UndamagedIf (S.state s.old) (IsNodeShaped (S.state s.old) n)
         (RoomForBytes (S.state s.old) n
         (i * (S.state s.old).origin.request.block_size + start) (length bytes.now)) result }
@@ -92,6 +98,9 @@ fn write_bytes<S: Store>(s: &mut S, n: u32, at: u64, bytes: &[u8]) -> Result<(),
     ensures point { KeepsPoint (S.state s.old) (S.state s.new) }
     ensures places { OnOk result (KeepsPlacesBut (S.state s.old) (S.state s.new) n) }
     ensures damage { TellsWhatIs (S.state s.old) (S.state s.new) result }
+    ensures untangled { UntangledIf (S.state s.old) (IsNodeShaped (S.state s.old) n
+        × RoomForBytes (S.state s.old) n at (length bytes.now)) result }
+    ensures tangled { TellsTangleOf (S.state s.old) (S.state s.new) n result }
     ensures undamaged { UndamagedIf (S.state s.old) (IsNodeShaped (S.state s.old) n)
         (RoomForBytes (S.state s.old) n at (length bytes.now)) result }
     ensures heads { OnOk result (KeepsHeads (S.state s.old) (S.state s.new) n) }
@@ -127,6 +136,9 @@ pub(crate) fn fill_bytes<S: Store>(
     ensures point { KeepsPoint (S.state s.old) (S.state s.new) }
     ensures places { OnOk result (KeepsPlacesBut (S.state s.old) (S.state s.new) n) }
     ensures damage { TellsWhatIs (S.state s.old) (S.state s.new) result }
+    ensures untangled { UntangledIf (S.state s.old) (IsNodeShaped (S.state s.old) n
+        × RoomForBytes (S.state s.old) n at count) result }
+    ensures tangled { TellsTangleOf (S.state s.old) (S.state s.new) n result }
     ensures undamaged { UndamagedIf (S.state s.old) (IsNodeShaped (S.state s.old) n)
         (RoomForBytes (S.state s.old) n at count) result }
     ensures heads { OnOk result (KeepsHeads (S.state s.old) (S.state s.new) n) }
@@ -162,6 +174,9 @@ pub fn write_at<S: Store>(s: &mut S, n: u32, at: u64, bytes: &[u8]) -> Result<()
     ensures point { KeepsPoint (S.state s.old) (S.state s.new) }
     ensures places { OnOk result (KeepsPlacesBut (S.state s.old) (S.state s.new) n) }
     ensures damage { TellsWhatIs (S.state s.old) (S.state s.new) result }
+    ensures untangled { UntangledIf (S.state s.old) (IsNodeShaped (S.state s.old) n
+        × RoomForBytes (S.state s.old) n at (length bytes.now)) result }
+    ensures tangled { TellsTangleOf (S.state s.old) (S.state s.new) n result }
     ensures undamaged { UndamagedIf (S.state s.old) (IsNodeSized (S.state s.old) n)
         (RoomForBytes (S.state s.old) n at (length bytes.now)) result }
     ensures inodes { OnOk result (KeepsInodesBut (S.state s.old) (S.state s.new) n) }
@@ -187,6 +202,9 @@ pub fn fill_at<S: Store>(s: &mut S, n: u32, at: u64, count: u32, byte: u8) -> Re
     ensures point { KeepsPoint (S.state s.old) (S.state s.new) }
     ensures places { OnOk result (KeepsPlacesBut (S.state s.old) (S.state s.new) n) }
     ensures damage { TellsWhatIs (S.state s.old) (S.state s.new) result }
+    ensures untangled { UntangledIf (S.state s.old) (IsNodeShaped (S.state s.old) n
+        × RoomForBytes (S.state s.old) n at count) result }
+    ensures tangled { TellsTangleOf (S.state s.old) (S.state s.new) n result }
     ensures undamaged { UndamagedIf (S.state s.old) (IsNodeSized (S.state s.old) n)
         (RoomForBytes (S.state s.old) n at count) result }
     ensures inodes { OnOk result (KeepsInodesBut (S.state s.old) (S.state s.new) n) }

@@ -1,5 +1,5 @@
 -- What blocks hold that were made new, step by step.
-use Rattle.std.proofs.Common.{◌≡◌, ◌≢◌, ℕ, ◌+◌, ◌&&◌, not, true, false, inl, inr, Option, Some, None, refl, sym, ap, ◌∙◌, subst}
+use Rattle.std.proofs.Common.{◌≡◌, ◌≢◌, ℕ, ◌+◌, not, true, false, inl, inr, Option, None, refl, sym, ap, ◌∙◌, subst}
 use Rattle.std.specs.Prelude.{is_some, nat_eq, slice_set, Ok}
 use Rattle.std.specs.Map.{update}
 use Rattle.std.proofs.lemmas.Bool.{cases_eq, and_parts}
@@ -11,7 +11,7 @@ use Rattle.edge_store.specs.Placed.{entry_at, pointer_at}
 use Rattle.edge_store.specs.View.{View, IsView, Inode, content, content_at, empty_content, entries_in, pointers, is_allocable, is_owned_by, is_spot, is_used, is_new, with_block, with_inode, with_entry}
 use Rattle.edge_store.proofs.RoomLaws.{taken_now, dropped_old, free_now-same}
 use Rattle.edge_store.proofs.ViewLaws.{used_of, empty_is_owned, with_block_here, with_block_apart}
-use Rattle.edge_moves.specs.Renewal.{IsKept, IsMoved, IsRenewed, EntryRenewed, PointerRenewed, UnderRenewed}
+use Rattle.edge_moves.specs.Renewal.{IsMoved, IsRenewed, EntryRenewed, PointerRenewed, UnderRenewed}
 use Rattle.edge_moves.proofs.ArriveLaws.{held_some}
 use Rattle.edge_tree.specs.declared.own.Renewal.{Renewal}
 use Rattle.edge_tree.specs.declared.own.Renewal.TheVariants.{Same, Blank}

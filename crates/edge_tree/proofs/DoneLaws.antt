@@ -8,7 +8,7 @@ use Rattle.edge_base.specs.declared.geometry.Request.{Request}
 use Rattle.edge_base.specs.declared.way.Way.{Way}
 use Rattle.edge_base.specs.declared.way.Way.TheVariants as way
 use Rattle.edge_base.specs.layout.Places.{IsGeometry, entries_of, pointers_of, max_blocks_of, way_of}
-use Rattle.edge_base.specs.tree.Positions.{Position, has, same_position, positions_of_form}
+use Rattle.edge_base.specs.tree.Positions.{Position, has, positions_of_form}
 use Rattle.edge_store.specs.Damages.{form_of_entry, form_under}
 use Rattle.edge_store.specs.Placed.{block_at, data_block, entry_at, follow, pointer_at}
 use Rattle.edge_store.specs.State.{StoreState, Told}

@@ -1,6 +1,6 @@
 -- What calls do that make blocks of a node new, where the views are told. s is a store as a call begins; old and new are it and the store
 -- after the call.
-use Rattle.std.specs.Prelude.{◌≡◌, ◌≢◌, ◌+◌, ◌<◌, ◌≤◌, ℕ, true, List, Result}
+use Rattle.std.specs.Prelude.{◌≡◌, ◌≢◌, ◌+◌, ◌<◌, ◌≤◌, ℕ, true, List, Result, Err}
 use Rattle.edge_base.specs.declared.damage.Damage.{Damage}
 use Rattle.edge_base.specs.declared.damage.DamageKind.TheVariants.{Tangled}
 use Rattle.edge_base.specs.declared.way.Way.{Way}
@@ -53,6 +53,10 @@ RoomForChain s n i = fresh_on_chain s.origin.request s.committed s.working n i �
 -- the place of inode n is told as the block of a tangled node, if damage is told
 abbrev pub IsTangledAt : StoreState → ℕ → StoreFault → Type 0
 IsTangledAt s n fault = Told s → (damage : Damage) → fault ≡ Damaged damage → damage ≡ record { block = s.places n; kind = Tangled }
+
+-- a tangled node that is told is node n: its block is the place of that inode, as the call leaves it
+abbrev pub TellsTangleOf : {T : Type 0} → StoreState → StoreState → ℕ → Result T StoreFault → Type 0
+TellsTangleOf old new n result = Told old → (damage : Damage) → result ≡ Err (Damaged damage) → damage.kind ≡ Tangled → damage.block ≡ new.places n
 
 -- no tangled node is told where there is room
 abbrev pub UntangledIf : {T : Type 0} → StoreState → Type 0 → Result T StoreFault → Type 0

@@ -5,7 +5,7 @@ ghost use Rattle.edge_store.specs.Calls.{Called, KeepsPoint, KeepsPlaces, KeepsP
 ghost use Rattle.edge_store.specs.Damages.{form_of_entry, form_under};
 ghost use Rattle.edge_store.specs.State.{IsLive, IsNumber, IsAllocable, IsLink, HasInode, IsNew};
 ghost use Rattle.edge_tree.specs.Answers.{TellsWhatIs, IsLinkedTo, IsLinkedSpot, IsReadable};
-ghost use Rattle.edge_tree.specs.Own.{HasFew, IsTangledAt, RoomForBlock, RoomForEntry, RoomForPointer, RoomForUnder, UntangledIf, UndamagedIf, IsSpotSound, IsNodeSound, IsNodeTidy, RenewsEntry, RenewsPointer, KeepsInodes, LeadsTo};
+ghost use Rattle.edge_tree.specs.Own.{HasFew, IsTangledAt, TellsTangleOf, RoomForBlock, RoomForEntry, RoomForPointer, RoomForUnder, UntangledIf, UndamagedIf, IsSpotSound, IsNodeSound, IsNodeTidy, RenewsEntry, RenewsPointer, KeepsInodes, LeadsTo};
 ghost use Rattle.edge_tree.specs.Blank.{FillsBlock, FillsEntry, FillsPointer, FillsUnder};
 
 use crate::link::{entry_link, pointer_link};
@@ -32,6 +32,7 @@ pub fn tangled<S: Store>(s: &mut S, n: u32) -> StoreFault
     ensures point { KeepsPoint (S.state s.old) (S.state s.new) }
     ensures damage { TellsWhatIs {T = ⊥} (S.state s.old) (S.state s.new) (Err result) }
     ensures told { IsTangledAt (S.state s.old) n result }
+    ensures tangled { TellsTangleOf {T = ⊥} (S.state s.old) (S.state s.new) n (Err result) }
 {
     match s.inode_block(n) {
         Ok(block) => s.report(Damage {
@@ -65,6 +66,7 @@ fn renew<S: Store>(s: &mut S, from: Spot, renewal: Renewal) -> Result<u32, Store
     ensures damage { TellsWhatIs (S.state s.old) (S.state s.new) result }
     ensures untangled { UntangledIf (S.state s.old)
         (RoomForBlock (S.state s.old) from.block) result }
+    ensures tangled { TellsTangleOf (S.state s.old) (S.state s.new) from.owner result }
     ensures undamaged { UndamagedIf (S.state s.old)
         (IsSpotSound (S.state s.old) from) (RoomForBlock (S.state s.old) from.block) result }
     ensures block { IfOk result (IsAllocable (S.state s.old)) }
@@ -110,6 +112,7 @@ pub(crate) fn renew_entry<S: Store>(
     ensures places { OnOk result (KeepsPlacesBut (S.state s.old) (S.state s.new) n) }
     ensures damage { TellsWhatIs (S.state s.old) (S.state s.new) result }
     ensures untangled { UntangledIf (S.state s.old) (RoomForEntry (S.state s.old) n i) result }
+    ensures tangled { TellsTangleOf (S.state s.old) (S.state s.new) n result }
     ensures undamaged { UndamagedIf (S.state s.old)
         (IsNodeSound (S.state s.old) n) (RoomForEntry (S.state s.old) n i) result }
     ensures block { IfOk result (IsAllocable (S.state s.old)) }
@@ -144,6 +147,7 @@ pub fn own_entry<S: Store>(s: &mut S, n: u32, i: u32, form: Form) -> Result<u32,
     ensures places { OnOk result (KeepsPlacesBut (S.state s.old) (S.state s.new) n) }
     ensures damage { TellsWhatIs (S.state s.old) (S.state s.new) result }
     ensures untangled { UntangledIf (S.state s.old) (RoomForEntry (S.state s.old) n i) result }
+    ensures tangled { TellsTangleOf (S.state s.old) (S.state s.new) n result }
     ensures undamaged { UndamagedIf (S.state s.old)
         (IsNodeSound (S.state s.old) n) (RoomForEntry (S.state s.old) n i) result }
     ensures block { IfOk result (IsAllocable (S.state s.old)) }
@@ -176,6 +180,7 @@ pub(crate) fn renew_pointer<S: Store>(
     ensures places { OnOk result (KeepsPlaces (S.state s.old) (S.state s.new)) }
     ensures damage { TellsWhatIs (S.state s.old) (S.state s.new) result }
     ensures untangled { UntangledIf (S.state s.old) (RoomForPointer (S.state s.old) at i) result }
+    ensures tangled { TellsTangleOf (S.state s.old) (S.state s.new) at.owner result }
     ensures undamaged { UndamagedIf (S.state s.old)
         (IsNodeSound (S.state s.old) at.owner) (RoomForPointer (S.state s.old) at i) result }
     ensures block { IfOk result (IsAllocable (S.state s.old)) }
@@ -212,6 +217,7 @@ pub fn own_pointer<S: Store>(s: &mut S, at: Spot, i: u32) -> Result<u32, StoreFa
     ensures places { OnOk result (KeepsPlaces (S.state s.old) (S.state s.new)) }
     ensures damage { TellsWhatIs (S.state s.old) (S.state s.new) result }
     ensures untangled { UntangledIf (S.state s.old) (RoomForPointer (S.state s.old) at i) result }
+    ensures tangled { TellsTangleOf (S.state s.old) (S.state s.new) at.owner result }
     ensures undamaged { UndamagedIf (S.state s.old)
         (IsNodeSound (S.state s.old) at.owner) (RoomForPointer (S.state s.old) at i) result }
     ensures block { IfOk result (IsAllocable (S.state s.old)) }
@@ -245,6 +251,7 @@ pub(crate) fn own_under<S: Store>(
     ensures damage { TellsWhatIs (S.state s.old) (S.state s.new) result }
     ensures untangled { UntangledIf (S.state s.old)
         (RoomForUnder (S.state s.old) n i place) result }
+    ensures tangled { TellsTangleOf (S.state s.old) (S.state s.new) n result }
     ensures undamaged { UndamagedIf (S.state s.old)
         (IsNodeTidy (S.state s.old) n) (RoomForUnder (S.state s.old) n i place) result }
     ensures block { IfOk result (IsAllocable (S.state s.old)) }

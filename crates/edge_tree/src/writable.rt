@@ -6,7 +6,7 @@ ghost use Rattle.edge_store.specs.Calls.{Called, KeepsPoint, KeepsPlacesBut};
 ghost use Rattle.edge_store.specs.Damages.{form_of_entry};
 ghost use Rattle.edge_store.specs.State.{IsLive, IsNumber, IsAllocable, HasInode, IsNew};
 ghost use Rattle.edge_tree.specs.Answers.{TellsWhatIs, IsReadable};
-ghost use Rattle.edge_tree.specs.Own.{RoomForWay, RoomForChain, UntangledIf, UndamagedIf, IsNodeTidy, IsNodeShaped, KeepsHeads, MakesWritable};
+ghost use Rattle.edge_tree.specs.Own.{RoomForWay, RoomForChain, TellsTangleOf, UntangledIf, UndamagedIf, IsNodeTidy, IsNodeShaped, KeepsHeads, MakesWritable};
 ghost use Rattle.edge_tree.specs.Blank.{FillsWay, MakesNew, MakesOverwritable};
 
 use crate::own::{Renewal, own_under, renew_entry, renew_pointer};
@@ -36,6 +36,7 @@ fn own_below<S: Store>(
     ensures damage { TellsWhatIs (S.state s.old) (S.state s.new) result }
     ensures untangled { UntangledIf (S.state s.old)
         (RoomForWay (S.state s.old) n (Double i outer place)) result }
+    ensures tangled { TellsTangleOf (S.state s.old) (S.state s.new) n result }
     ensures undamaged { UndamagedIf (S.state s.old) (IsNodeTidy (S.state s.old) n)
         (RoomForWay (S.state s.old) n (Double i outer place)) result }
     ensures block { IfOk result (IsAllocable (S.state s.old)) }
@@ -65,6 +66,7 @@ fn make_new<S: Store>(s: &mut S, n: u32, i: u32, renewal: Renewal) -> Result<u32
     ensures places { OnOk result (KeepsPlacesBut (S.state s.old) (S.state s.new) n) }
     ensures damage { TellsWhatIs (S.state s.old) (S.state s.new) result }
     ensures untangled { UntangledIf (S.state s.old) (RoomForChain (S.state s.old) n i) result }
+    ensures tangled { TellsTangleOf (S.state s.old) (S.state s.new) n result }
     ensures undamaged { UndamagedIf (S.state s.old)
         (IsNodeShaped (S.state s.old) n) (RoomForChain (S.state s.old) n i) result }
     ensures heads { OnOk result (KeepsHeads (S.state s.old) (S.state s.new) n) }
@@ -99,6 +101,7 @@ pub fn make_writable<S: Store>(s: &mut S, n: u32, i: u32) -> Result<u32, StoreFa
     ensures places { OnOk result (KeepsPlacesBut (S.state s.old) (S.state s.new) n) }
     ensures damage { TellsWhatIs (S.state s.old) (S.state s.new) result }
     ensures untangled { UntangledIf (S.state s.old) (RoomForChain (S.state s.old) n i) result }
+    ensures tangled { TellsTangleOf (S.state s.old) (S.state s.new) n result }
     ensures undamaged { UndamagedIf (S.state s.old)
         (IsNodeShaped (S.state s.old) n) (RoomForChain (S.state s.old) n i) result }
     ensures heads { OnOk result (KeepsHeads (S.state s.old) (S.state s.new) n) }
@@ -122,6 +125,7 @@ pub fn make_overwritable<S: Store>(s: &mut S, n: u32, i: u32) -> Result<u32, Sto
     ensures places { OnOk result (KeepsPlacesBut (S.state s.old) (S.state s.new) n) }
     ensures damage { TellsWhatIs (S.state s.old) (S.state s.new) result }
     ensures untangled { UntangledIf (S.state s.old) (RoomForChain (S.state s.old) n i) result }
+    ensures tangled { TellsTangleOf (S.state s.old) (S.state s.new) n result }
     ensures undamaged { UndamagedIf (S.state s.old)
         (IsNodeShaped (S.state s.old) n) (RoomForChain (S.state s.old) n i) result }
     ensures heads { OnOk result (KeepsHeads (S.state s.old) (S.state s.new) n) }

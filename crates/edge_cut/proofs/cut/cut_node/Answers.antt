@@ -114,3 +114,21 @@ returns-clause-undamaged g c told indices shape through room =
     let cut : CutPlaces one.working two.working c.args.form c.args.n c.in_ok-block.block c.args.place (pointers_of old.origin.request) = rw (← first.called.origin) (second.cut told_one (rw first.called.origin tree)) in
     let rest = node_rest old.origin.request old.committed old.working c.args.n indices shape c.args.entry c.args.place c.args.form c.requires.node through one.working c.in_ok-block.block (first.renewed told) view_one two.working view_two cut in
     c.cut_entries.ensures.undamaged told_two (rw origin_two rest)
+
+pub returns-in_err-block-clause-tangled : goal.returns-in_err-block-clause-tangled
+returns-in_err-block-clause-tangled g c told d e =
+    let p = err_from_is_err_and c.from_residual.result c.from_residual.ensures.1 in
+    let same = err_of c.in_err-block.field-0.0 (Damaged d) (ap Err (sym p.2) ∙ sym p.1 ∙ e) in
+    c.in_err-block.ensures.tangled told d (ap Err same)
+
+pub returns-in_err-cut_places-clause-tangled : goal.returns-in_err-cut_places-clause-tangled
+returns-in_err-cut_places-clause-tangled g c told d e kind =
+    let told_one : Told (g.S.Store.state c.own_entry.new.s) = ap (λ o. o.tells) c.in_ok-block.ensures.called.origin ∙ told in
+    let p = err_from_is_err_and c.from_residual-in_err-cut_places.result c.from_residual-in_err-cut_places.ensures.1 in
+    absurd (c.in_err-cut_places.ensures.untangled told_one d (ap Err (sym p.2) ∙ sym p.1 ∙ e) kind)
+
+pub returns-clause-tangled : goal.returns-clause-tangled
+returns-clause-tangled g c told d e kind =
+    let told_one : Told (g.S.Store.state c.own_entry.new.s) = ap (λ o. o.tells) c.in_ok-block.ensures.called.origin ∙ told in
+    let told_two : Told (g.S.Store.state c.cut_places.new.s) = ap (λ o. o.tells) c.in_ok-cut_places.ensures.called.origin ∙ told_one in
+    absurd (c.cut_entries.ensures.untangled told_two d e kind)

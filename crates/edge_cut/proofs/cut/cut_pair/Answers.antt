@@ -264,3 +264,34 @@ returns-clause-heads g c =
     (heads_kept two.working four.working c.args.n (third.inodes told_three ∙ second.inodes told_two)))
     (heads told_four))
     c.cut_entries.ensures.heads
+
+pub returns-in_err-pair-clause-tangled : goal.returns-in_err-pair-clause-tangled
+returns-in_err-pair-clause-tangled g c told d e =
+    let p = err_from_is_err_and c.from_residual.result c.from_residual.ensures.1 in
+    let same = err_of c.in_err-pair.field-0.0 (Damaged d) (ap Err (sym p.2) ∙ sym p.1 ∙ e) in
+    c.in_err-pair.ensures.tangled told d (ap Err same)
+
+pub returns-then-pair-clause-tangled : goal.returns-then-pair-clause-tangled
+returns-then-pair-clause-tangled g c told d e kind =
+    let told_two : Told (g.S.Store.state c.own_pair.new.s) = ap (λ o. o.tells) c.in_ok-pair.ensures.called.origin ∙ told in
+    absurd (c.drop_below.ensures.untangled told_two d e kind)
+
+pub returns-in_err-cut_places-clause-tangled : goal.returns-in_err-cut_places-clause-tangled
+returns-in_err-cut_places-clause-tangled g c told d e kind =
+    let told_two : Told (g.S.Store.state c.own_pair.new.s) = ap (λ o. o.tells) c.in_ok-pair.ensures.called.origin ∙ told in
+    let p = err_from_is_err_and c.from_residual-in_err-cut_places.result c.from_residual-in_err-cut_places.ensures.1 in
+    absurd (c.in_err-cut_places.ensures.untangled told_two d (ap Err (sym p.2) ∙ sym p.1 ∙ e) kind)
+
+pub returns-in_err-cut_places-2-clause-tangled : goal.returns-in_err-cut_places-2-clause-tangled
+returns-in_err-cut_places-2-clause-tangled g c told d e kind =
+    let told_two : Told (g.S.Store.state c.own_pair.new.s) = ap (λ o. o.tells) c.in_ok-pair.ensures.called.origin ∙ told in
+    let told_three : Told (g.S.Store.state c.cut_places.new.s) = ap (λ o. o.tells) c.in_ok-cut_places.ensures.called.origin ∙ told_two in
+    let p = err_from_is_err_and c.from_residual-in_err-cut_places-2.result c.from_residual-in_err-cut_places-2.ensures.1 in
+    absurd (c.in_err-cut_places-2.ensures.untangled told_three d (ap Err (sym p.2) ∙ sym p.1 ∙ e) kind)
+
+pub returns-clause-tangled : goal.returns-clause-tangled
+returns-clause-tangled g c told d e kind =
+    let told_two = ap (λ o. o.tells) c.in_ok-pair.ensures.called.origin ∙ told in
+    let told_three = ap (λ o. o.tells) c.in_ok-cut_places.ensures.called.origin ∙ told_two in
+    let told_four = ap (λ o. o.tells) c.in_ok-cut_places-2.ensures.called.origin ∙ told_three in
+    absurd (c.cut_entries.ensures.untangled told_four d e kind)

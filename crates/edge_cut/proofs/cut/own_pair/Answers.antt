@@ -100,3 +100,16 @@ returns-in_err-node-clause-undamaged g c told tidy room d e =
 
 pub returns-clause-spot : goal.returns-clause-spot
 returns-clause-spot g c told = (c.in_ok-node.ensures.leads told).0
+
+pub returns-in_err-top-clause-tangled : goal.returns-in_err-top-clause-tangled
+returns-in_err-top-clause-tangled g c told d e =
+    let p = err_from_is_err_and c.from_residual.result c.from_residual.ensures.1 in
+    let same = err_of c.in_err-top.field-0.0 (Damaged d) (ap Err (sym p.2) ∙ sym p.1 ∙ e) in
+    c.in_err-top.ensures.tangled told d (ap Err same)
+
+pub returns-in_err-node-clause-tangled : goal.returns-in_err-node-clause-tangled
+returns-in_err-node-clause-tangled g c told d e =
+    let told_mid : Told (g.S.Store.state c.own_entry.new.s) = ap (λ o. o.tells) c.in_ok-top.ensures.called.origin ∙ told in
+    let p = err_from_is_err_and c.from_residual-in_err-node.result c.from_residual-in_err-node.ensures.1 in
+    let same = err_of c.in_err-node.field-0.0 (Damaged d) (ap Err (sym p.2) ∙ sym p.1 ∙ e) in
+    c.in_err-node.ensures.tangled told_mid d (ap Err same)

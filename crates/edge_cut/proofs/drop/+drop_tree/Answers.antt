@@ -1,4 +1,5 @@
-use Rattle.std.proofs.Common.{rules, ◌≡◌, ◌≢◌, ◌<◌, ◌+◌, true, false, refl, sym, ap, ◌∙◌, arith, None}
+use Rattle.std.proofs.Common.{rules, ◌≡◌, ◌≢◌, ◌<◌, ◌+◌, ℕ, true, false, refl, sym, ap, ◌∙◌, subst, arith, None, inl, inr}
+use Rattle.std.proofs.lemmas.Bool.{cases_eq}
 use Rattle.std.proofs.lemmas.Result.{err_from_is_err_and}
 use Rattle.std.specs.Prelude.{slice_index, Err}
 use Rattle.edge_base.specs.declared.form.Form.TheVariants.{Plain, Double}
@@ -9,14 +10,16 @@ use Rattle.edge_store.specs.State.{Told, IsNumber}
 use Rattle.edge_store.specs.declared.fault.StoreFault.TheVariants.{Damaged}
 use Rattle.edge_store.specs.View.{View, IsView, is_link, is_spot, is_whole, is_allocable}
 use Rattle.edge_store.proofs.ViewLaws.{with_block_apart}
+use Rattle.edge_moves.proofs.FactLaws.{full_node}
 use Rattle.edge_moves.proofs.SlotLaws.{some_pointers_fit}
 use Rattle.edge_moves.proofs.StepLaws.{pointer_is}
 use Rattle.edge_shape.specs.Shape.{entries_at}
 use Rattle.edge_shape.specs.Trees.{in_tree}
 use Rattle.edge_tree.proofs.LinkLaws.{allocable_of_link}
-use Rattle.edge_cut.specs.Dropped.{without, IsAtEntry, StaysLinked, top_below}
+use Rattle.edge_cut.specs.Dropped.{without, IsAtEntry, StaysLinked, top_below, IsFull}
 use Rattle.edge_cut.proofs.BelowLaws.{rank_below, not_zero, not_top, hangs_below, top_at_entry, top_kept, none_there, child_away}
 use Rattle.edge_cut.proofs.DropLaws.{rank, below_shallow, drops_all, drops_plain, one_absent, one_dropped, same_inodes, same_pointers, was_spot_all}
+use Rattle.edge_cut.proofs.FullLaws.{there_below, all_pointer, full_node_of, full_plain, was_full, less_so_far}
 use Rattle.edge_cut.proofs.GoLaws.{err_of, goes_on_then, told_now, told_then, on_ok_map, on_ok_both}
 use Rattle.edge_cut.proofs.LastLaws.{at_entry_same}
 use Rattle.edge_cut.proofs.LoopLaws.{Drops}
@@ -157,6 +160,15 @@ loop-place-preserved g t c =
                 let kept : after.working.blocks (top_below at.form at.block c.args.top) ≡ now.working.blocks (top_below at.form at.block c.args.top) = rw (← done.reads.working, ← w.top_of.ensures) (last.kept told_read) in
                 one_dropped old.origin.request old.working now.working at.form at.owner at.block c.args.top k c.loop-place.hollow_so_far (inv.views told) (view told) node low (spot told) after.working at.owner there child dropped
                 (top_kept old.origin.request now.working after.working at.form at.block c.args.top view_now view_after c.requires.highest kept);
+            full = λ told j below there. elim (cases_eq j k) [
+              | inl here ↦
+                  let es = entries_at old.working at.form at.block in
+                  let form : w.form_below.result ≡ form_under at.form = w.form_below.ensures in
+                  let child : IsFull now.working (form_under at.form) (slice_index es k) = rw (← done.reads.working, ← form, ← is told) (last.full (told_now old read goes told)) in
+                  let less = less_so_far old.working now.working at.form at.owner at.block c.args.top k c.loop-place.hollow_so_far (inv.views told) in
+                  subst (λ (m : ℕ). IsFull old.working (form_under at.form) (slice_index es m)) (sym here) (was_full old.working now.working less (form_under at.form) (slice_index es k) child)
+              | inr away ↦ inv.full told j (omega arith) there
+            ];
           } in
           rw (w.s-is, w.hollow_so_far-is) so_far
       | else-block-ne0 w ↦
@@ -165,6 +177,10 @@ loop-place-preserved g t c =
             places = done.reads.places ∙ inv.places;
             views = λ told. rw done.reads.working
                 (one_absent old.origin.request old.working now.working at.form at.owner at.block c.args.top k c.loop-place.hollow_so_far (inv.views told) (view told) node low (spot told) (sym (is told) ∙ w.if-block-ne0.false));
+            full = λ told j below there. elim (cases_eq j k) [
+              | inl here ↦ absurd (there (ap (slice_index (entries_at old.working at.form at.block)) here ∙ sym (is told) ∙ w.if-block-ne0.false))
+              | inr away ↦ inv.full told j (omega arith) there
+            ];
           } in
           rw (w.s-is, w.hollow_so_far-is) so_far
     ]
@@ -242,3 +258,28 @@ returns-clause-kept g t c =
     on_ok_both c.drop_one-2.result
     (λ apart dropped told. ap (λ (u : View). u.blocks c.args.top) (dropped (told_now old now inv.goes_on told)) ∙ with_block_apart now.working at.block None c.args.top (λ same. apart (sym same)) ∙ (inv.views told).kept)
     c.drop_one-2.ensures.kept c.drop_one-2.ensures.dropped
+
+pub returns-then-eq-clause-full : goal.returns-then-eq-clause-full
+returns-then-eq-clause-full g t c =
+    let plain : c.args.at.form ≡ Plain = search rules in
+    on_ok_map c.drop_one.result (λ kept told. full_plain (g.S.Store.state c.args.s.now).working c.args.at.form c.args.at.block plain) c.drop_one.ensures.kept
+
+pub returns-clause-full : goal.returns-clause-full
+returns-clause-full g t c =
+    let old = g.S.Store.state c.args.s.now in
+    let now = g.S.Store.state c.loop-place.s in
+    let at = c.args.at in
+    let inv = c.loop-place.invariant in
+    let node : at.form ≢ Plain = search rules in
+    let some : at.block ≢ 0 = not_zero old.origin.request at.block c.requires.block in
+    let all : c.loop-place.place ≡ pointers_of old.origin.request = omega (arith, c.loop-place.auto.place-end, c.loop-place-test.false, c.pointers-place-end.ensures) in
+    on_ok_map c.drop_one-2.result
+    (λ spot told.
+    let so_far = inv.views told in
+    let was = was_spot_all old.working now.working at.form at.form at.owner at.block at.block c.args.top c.loop-place.place c.loop-place.hollow_so_far so_far (spot (told_now old now inv.goes_on told) some) in
+    let view = g.met.S.Store.working_is_view c.args.s.now told c.requires.live in
+    let long = full_node old.origin.request old.working at.form at.owner at.block node view was in
+    full_node_of old.working at.form at.block node
+    (all_pointer old.working at.form at.block c.loop-place.place (all ∙ sym long) (sym c.if-hollow_so_far.false ∙ so_far.hollow))
+    (λ k there. inv.full told k (there_below old.working at.form at.block k c.loop-place.place (all ∙ sym long) there) there))
+    c.drop_one-2.ensures.spot

@@ -1,16 +1,18 @@
-use Rattle.std.proofs.Common.{◌≡◌, ◌≢◌, ◌<◌, ◌+◌, ℕ, true, refl, sym, ap, ◌∙◌, subst, arith}
+use Rattle.std.proofs.Common.{◌≡◌, ◌≢◌, ◌<◌, ◌+◌, ℕ, true, refl, sym, ap, ◌∙◌, subst, arith, inl, inr}
+use Rattle.std.proofs.lemmas.Bool.{cases_eq}
 use Rattle.std.proofs.lemmas.Result.{err_from_is_err_and}
-use Rattle.std.specs.Prelude.{is_some, Option, Err}
+use Rattle.std.specs.Prelude.{is_some, slice_index, Option, Err}
 use Rattle.edge_base.specs.layout.Places.{entries_of}
 use Rattle.edge_store.specs.Damages.{form_of_entry}
 use Rattle.edge_store.specs.Placed.{entry_at}
 use Rattle.edge_store.specs.State.{Told}
-use Rattle.edge_store.specs.View.{View, Inode, IsView, is_link}
+use Rattle.edge_store.specs.View.{View, Inode, IsView, entries_of_inode, is_link}
 use Rattle.edge_store.specs.declared.fault.StoreFault.TheVariants.{Damaged}
 use Rattle.edge_shape.specs.Trees.{in_tree}
 use Rattle.edge_shape.specs.Cutting.{CutEntries}
-use Rattle.edge_cut.specs.Dropped.{without, IsAtEntry}
+use Rattle.edge_cut.specs.Dropped.{without, IsAtEntry, IsFull}
 use Rattle.edge_cut.proofs.EntryLaws.{entry_here, entry_sound, entry_absent, entry_cut, some_after, heads_after}
+use Rattle.edge_cut.proofs.FullLaws.{was_full, less_twice, less_entry, later_entry}
 use Rattle.edge_cut.proofs.GoLaws.{err_of, goes_on_then, told_now}
 use Rattle.edge_cut.proofs.LastLaws.{at_entry_stays}
 use Rattle.edge_cut.proofs.LoopLaws.{EntriesSoFar}
@@ -123,6 +125,20 @@ loop-e-preserved g c =
                 let gone : mid.working ≡ without now.working (in_tree now.working (form_of_entry old.origin.request k) (entry_at old.working n k)) = rw (← done.reads.working, ← form, ← is) (dropped.dropped told_read) in
                 entry_cut old.origin.request old.working now.working n c.args.from k cut (view_old told) (view told) c.loop-e.auto.e low sound mid.working after.working (λ none. w.if-block-ne0.true (is ∙ none)) gone
                 (set.set (told_now old mid goes_mid told));
+            less = λ told x. less_twice old.working now.working after.working x (inv.less told x)
+                (less_entry now.working read.working mid.working after.working (in_tree read.working w.entry_form.result c.in_ok-block.block) n k done.reads.working (dropped.dropped (told_now old read goes told)) (set.set (told_now old mid goes_mid told)) x);
+            later = λ told e behind.
+                later_entry mid.working after.working n k e 0 (λ same. omega arith) (set.set (told_now old mid goes_mid told))
+                ∙ ap (λ (o : ℕ → Option Inode). slice_index (entries_of_inode (o n)) e) (inodes told) ∙ inv.later told e (omega arith);
+            full = λ told e from_e below there. elim (cases_eq e k) [
+              | inl here ↦
+                  let is : c.in_ok-block.block ≡ entry_at old.working n k = done.entry (told_now old now inv.goes_on told) ∙ inv.later told k (omega arith) in
+                  let form : w.entry_form.result ≡ form_of_entry old.origin.request k = w.entry_form.ensures ∙ ap (λ o. form_of_entry o.request k) goes.called.origin in
+                  let child : IsFull now.working (form_of_entry old.origin.request k) (entry_at old.working n k) = rw (← done.reads.working, ← form, ← is) (dropped.full (told_now old read goes told)) in
+                  subst (λ (m : ℕ). IsFull old.working (form_of_entry old.origin.request m) (entry_at old.working n m)) (sym here)
+                  (was_full old.working now.working (inv.less told) (form_of_entry old.origin.request k) (entry_at old.working n k) child)
+              | inr away ↦ inv.full told e from_e (omega arith) there
+            ];
           } in
           rw w.s-is so_far
       | else-block-ne0 w ↦
@@ -137,6 +153,12 @@ loop-e-preserved g c =
                 let here = entry_here old.origin.request old.working now.working n c.args.from k cut (view_old told) (view told) c.loop-e.auto.e low sound in
                 let absent = sym (done.entry told_at ∙ here) ∙ w.if-block-ne0.false in
                 rw done.reads.working (entry_absent old.origin.request old.working now.working n c.args.from k cut (view_old told) (view told) c.loop-e.auto.e low sound absent);
+            less = λ told. rw done.reads.working (inv.less told);
+            later = λ told e behind. ap (λ (u : View). entry_at u n e) done.reads.working ∙ inv.later told e (omega arith);
+            full = λ told e from_e below there. elim (cases_eq e k) [
+              | inl here ↦ absurd (there (ap (entry_at old.working n) here ∙ sym (done.entry (told_now old now inv.goes_on told) ∙ inv.later told k (omega arith)) ∙ w.if-block-ne0.false))
+              | inr away ↦ inv.full told e from_e (omega arith) there
+            ];
           } in
           rw w.s-is so_far
     ]
@@ -153,3 +175,8 @@ returns-clause-cut g c =
     let now = g.S.Store.state c.loop-e.s in
     let all : c.loop-e.e ≡ entries_of old.origin.request = omega (arith, c.loop-e.auto.e-end, c.loop-e-test.false, c.entries-e-end.ensures, c.requires.entry) in
     λ told sound. subst (λ (m : ℕ). CutEntries old.origin.request old.working now.working c.args.n c.args.from m) all (c.loop-e.invariant.cut told sound)
+
+pub returns-clause-full : goal.returns-clause-full
+returns-clause-full g c =
+    let old = g.S.Store.state c.args.s.now in
+    λ told e from_e below there. c.loop-e.invariant.full told e from_e (omega (arith, c.loop-e.auto.e-end, c.loop-e-test.false, c.entries-e-end.ensures, c.requires.entry, below)) there

@@ -1,12 +1,15 @@
-use Rattle.std.proofs.Common.{◌≡◌, ◌≢◌, ◌+◌, false, sym, ap, ◌∙◌}
-use Rattle.std.proofs.lemmas.Bool.{eqb-true}
+use Rattle.std.proofs.Common.{◌≡◌, ◌≢◌, ◌+◌, true, false, inl, inr, sym, ap, ◌∙◌, subst}
+use Rattle.std.proofs.lemmas.Bool.{eq-eqb, eqb-true}
 use Rattle.std.specs.Prelude.{slice_index}
 use Rattle.edge_base.specs.layout.Places.{pointers_of}
 use Rattle.edge_store.specs.State.{Told}
+use Rattle.edge_store.specs.View.{View}
 use Rattle.edge_moves.proofs.FactLaws.{full_node}
 use Rattle.edge_moves.proofs.StepLaws.{not_zero}
 use Rattle.edge_shape.specs.Shape.{entries_at}
 use Rattle.edge_shape.specs.Where.{some_in}
+use Rattle.edge_cut.specs.Dropped.{has_pointer}
+use Rattle.edge_cut.proofs.FullLaws.{some_pointer, there_pointer}
 use Rattle.edge_cut.proofs.SearchLaws.{none_beside}
 use Rattle.edge_cut.proofs.through.beside.Goals as goal
 
@@ -37,3 +40,21 @@ hollow-requires-clause-hollow g c told =
       spot = spot;
       none = none_beside es (pointers_of old.origin.request) c.args.outer long kept here cut;
     })
+
+pub returns-clause-some : goal.returns-clause-some
+returns-clause-some g c told =
+    let old = g.S.Store.state c.args.s.now in
+    let mid = g.S.Store.state c.has_some.new.s in
+    let at = c.args.at in
+    let first = c.in_ok-kept.ensures in
+    let second = c.in_ok-cut.ensures in
+    let told_mid : Told mid = ap (λ o. o.tells) first.called.origin ∙ told in
+    elim c.else-absent.either [
+      | inl cut ↦ subst (λ (u : View). has_pointer u at.form at.block ≡ true) first.reads.working
+          (some_pointer mid.working at.form at.block (c.args.outer + 1) c.pointers-end.result (sym (second.some told_mid) ∙ cut.2))
+      | inr other ↦ elim other [
+        | inl kept ↦ some_pointer old.working at.form at.block 0 c.args.outer (sym (first.some told) ∙ kept.1)
+        | inr here ↦ there_pointer old.working at.form at.block c.args.outer
+            (λ none. let h : true ≡ false = sym (eq-eqb (slice_index (entries_at old.working at.form at.block) c.args.outer) 0 none) ∙ sym (c.requires.absent told) ∙ here in cc)
+      ]
+    ]

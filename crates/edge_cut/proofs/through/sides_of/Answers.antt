@@ -1,13 +1,15 @@
-use Rattle.std.proofs.Common.{◌≡◌, ◌≢◌, true, false, sym, ap, ◌∙◌, arith, inl, inr}
+use Rattle.std.proofs.Common.{◌≡◌, ◌≢◌, true, false, sym, ap, ◌∙◌, subst, arith, inl, inr}
 use Rattle.std.proofs.lemmas.Bool.{cases_lt}
 use Rattle.edge_base.specs.layout.Places.{pointers_of}
 use Rattle.edge_store.specs.State.{Told}
-use Rattle.edge_store.specs.View.{is_spot}
+use Rattle.edge_store.specs.View.{View, is_spot}
 use Rattle.edge_moves.proofs.FactLaws.{full_node}
 use Rattle.edge_moves.proofs.SlotLaws.{some_pointers_fit}
 use Rattle.edge_moves.proofs.StepLaws.{not_zero}
 use Rattle.edge_shape.specs.Shape.{entries_at}
 use Rattle.edge_shape.specs.Where.{some_in}
+use Rattle.edge_cut.specs.Dropped.{has_pointer}
+use Rattle.edge_cut.proofs.FullLaws.{some_pointer}
 use Rattle.edge_cut.proofs.SearchLaws.{none_in_sides}
 use Rattle.edge_cut.proofs.through.sides_of.Goals as goal
 
@@ -40,3 +42,17 @@ hollow-requires-clause-hollow g c told =
       spot = spot;
       none = none_in_sides (entries_at old.working at.form at.block) (pointers_of old.origin.request) c.args.place long kept cut;
     })
+
+pub returns-clause-some : goal.returns-clause-some
+returns-clause-some g c told =
+    let old = g.S.Store.state c.args.s.now in
+    let mid = g.S.Store.state c.has_some.new.s in
+    let at = c.args.at in
+    let first = c.in_ok-kept.ensures in
+    let second = c.in_ok-cut.ensures in
+    let told_mid : Told mid = ap (λ o. o.tells) first.called.origin ∙ told in
+    elim c.else-not-kept.either [
+      | inl cut ↦ subst (λ (u : View). has_pointer u at.form at.block ≡ true) first.reads.working
+          (some_pointer mid.working at.form at.block c.args.place c.pointers-end.result (sym (second.some told_mid) ∙ cut.1))
+      | inr kept ↦ some_pointer old.working at.form at.block 0 c.args.place (sym (first.some told) ∙ kept)
+    ]

@@ -45,6 +45,27 @@ returns-clause-undamaged g c told shaped room =
     let both = clears_from old mid c.args.n c.args.size rest.len first.called.origin first.reads.working first.point.committed shaped need in
     c.fill_bytes.ensures.undamaged told_mid both.0 both.1
 
+pub returns-clause-untangled : goal.returns-clause-untangled
+returns-clause-untangled g c told rules =
+    let old = g.S.Store.state c.args.s.now in
+    let mid = g.S.Store.state c.block_of.new.s in
+    let r = old.origin.request in
+    let first = c.in_ok-block_of.ensures in
+    let rest = c.in-Some.rest in
+    let index : rest.index ≡ c.args.size / r.block_size = c.in-Some.ensures.index ∙ ap (λ (q : Request). c.args.size / q.block_size) c.geometry.ensures in
+    let part : c.args.size % r.block_size ≢ 0 = subst (λ (q : Request). c.args.size % q.block_size ≢ 0) c.geometry.ensures c.in-Some.ensures.part in
+    let len : rest.len ≡ r.block_size - c.args.size % r.block_size = c.in-Some.ensures.len ∙ ap (λ (q : Request). q.block_size - c.args.size % q.block_size) c.geometry.ensures in
+    let is = rest_there r old.working c.args.n c.args.size part (λ none. c.if-branch-eq0.false (first.block told ∙ ap (data_block r old.working c.args.n) index ∙ none)) in
+    let told_mid : Told mid = ap (λ (o : Origin). o.tells) first.called.origin ∙ told in
+    let need = clears_room old c.args.n c.args.size rest.len (g.met.S.Store.is_geometry c.args.s.now) (g.met.S.Store.working_is_view c.args.s.now told c.requires.live) is len rules.0 rules.1 in
+    let both = clears_from old mid c.args.n c.args.size rest.len first.called.origin first.reads.working first.point.committed rules.0 need in
+    c.fill_bytes.ensures.untangled told_mid both
+
+pub returns-clause-tangled : goal.returns-clause-tangled
+returns-clause-tangled g c told =
+    let told_mid : Told (g.S.Store.state c.block_of.new.s) = ap (λ (o : Origin). o.tells) c.in_ok-block_of.ensures.called.origin ∙ told in
+    c.fill_bytes.ensures.tangled told_mid
+
 pub returns-clause-heads : goal.returns-clause-heads
 returns-clause-heads g c =
     on_ok_map c.fill_bytes.result (λ ok heads told.

@@ -1,12 +1,15 @@
-use Rattle.std.proofs.Common.{◌≡◌, ◌≤◌, ◌∙◌, ap, subst, arith}
+use Rattle.std.proofs.Common.{◌≡◌, ◌<◌, ◌≤◌, ◌∙◌, sym, ap, subst, arith}
+use Rattle.std.proofs.lemmas.Result.{err_from_is_err_and}
+use Rattle.std.specs.Prelude.{Err}
 use Rattle.edge_base.specs.outside.Below.{Origin}
 use Rattle.edge_store.specs.Effects.{HeadSet}
 use Rattle.edge_store.specs.State.{Told}
 use Rattle.edge_store.specs.View.{View, head_of_inode}
 use Rattle.edge_file.specs.Bytes.{size_at, size_in}
 use Rattle.edge_file.specs.Writing.{SameBlocks}
-use Rattle.edge_file.proofs.AnswerLaws.{on_ok_map}
+use Rattle.edge_file.proofs.AnswerLaws.{on_ok_map, same_fault}
 use Rattle.edge_file.proofs.GrowLaws.{grows_no_less}
+use Rattle.edge_file.proofs.SizeLaws.{shortens_from}
 use Rattle.edge_file.proofs.shorten.set_size.Goals as goal
 
 pub returns-then-size-head-clause-lengthened : goal.returns-then-size-head-clause-lengthened
@@ -61,3 +64,38 @@ returns-clause-set g c =
     subst (λ (v : View). HeadSet v new.working c.args.n (record head { size = c.args.size })) first.reads.working
     (grows_no_less mid.working new.working c.args.n c.args.size (grows told_mid) head here low))
     c.reach.ensures.set
+
+pub returns-in_err-head-clause-untangled_shaped : goal.returns-in_err-head-clause-untangled_shaped
+returns-in_err-head-clause-untangled_shaped g c told rules d e =
+    let p = err_from_is_err_and c.from_residual.result c.from_residual.ensures.1 in
+    c.in_err-head.ensures.untangled told d (ap Err (sym p.2) ∙ same_fault _ _ (sym p.1 ∙ e))
+
+pub returns-in_err-head-clause-tangled : goal.returns-in_err-head-clause-tangled
+returns-in_err-head-clause-tangled g c told d e kind =
+    let p = err_from_is_err_and c.from_residual.result c.from_residual.ensures.1 in
+    absurd (c.in_err-head.ensures.untangled told d (ap Err (sym p.2) ∙ same_fault _ _ (sym p.1 ∙ e)) kind)
+
+pub returns-then-size-head-clause-untangled_shaped : goal.returns-then-size-head-clause-untangled_shaped
+returns-then-size-head-clause-untangled_shaped g c told rules =
+    let old = g.S.Store.state c.args.s.now in
+    let mid = g.S.Store.state c.sized_head.new.s in
+    let first = c.in_ok-head.ensures in
+    let told_mid : Told mid = ap (λ (o : Origin). o.tells) first.called.origin ∙ told in
+    let is : size_at old.working c.args.n ≡ c.in_ok-head.head.size = ap size_in (first.head told) in
+    let shorter : c.args.size < size_at old.working c.args.n = omega (arith, is) in
+    c.shorten.ensures.untangled told_mid (shortens_from old mid c.args.n c.args.size first.called.origin first.reads.working first.point.committed rules.0 (rules.1 shorter))
+
+pub returns-then-size-head-clause-tangled : goal.returns-then-size-head-clause-tangled
+returns-then-size-head-clause-tangled g c told =
+    let told_mid : Told (g.S.Store.state c.sized_head.new.s) = ap (λ (o : Origin). o.tells) c.in_ok-head.ensures.called.origin ∙ told in
+    c.shorten.ensures.tangled told_mid
+
+pub returns-clause-untangled_shaped : goal.returns-clause-untangled_shaped
+returns-clause-untangled_shaped g c told rules =
+    let told_mid : Told (g.S.Store.state c.sized_head.new.s) = ap (λ (o : Origin). o.tells) c.in_ok-head.ensures.called.origin ∙ told in
+    c.reach.ensures.untangled told_mid
+
+pub returns-clause-tangled : goal.returns-clause-tangled
+returns-clause-tangled g c told d e kind =
+    let told_mid : Told (g.S.Store.state c.sized_head.new.s) = ap (λ (o : Origin). o.tells) c.in_ok-head.ensures.called.origin ∙ told in
+    absurd (c.reach.ensures.untangled told_mid d e kind)

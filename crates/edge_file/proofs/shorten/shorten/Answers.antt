@@ -1,9 +1,12 @@
 use Rattle.std.proofs.Common.{◌∙◌, sym, ap}
+use Rattle.std.proofs.lemmas.Result.{err_from_is_err_and}
+use Rattle.std.specs.Prelude.{Err}
 use Rattle.edge_base.specs.outside.Below.{Origin}
 use Rattle.edge_store.specs.State.{Told}
 use Rattle.edge_store.specs.View.{View, with_head}
 use Rattle.edge_store.proofs.ViewLaws.{with_inode_apart}
 use Rattle.edge_moves.proofs.SpentLaws.{whole_by_head}
+use Rattle.edge_tree.proofs.KindLaws.{inode_untangled}
 use Rattle.edge_file.proofs.AnswerLaws.{on_ok_map}
 use Rattle.edge_file.proofs.GrowLaws.{whole_of_head, whole_set}
 use Rattle.edge_file.proofs.SizeLaws.{shortens_head}
@@ -45,3 +48,25 @@ returns-clause-inodes g c =
     ap (λ (v : View). v.inodes x) (set told_mid) ∙ with_inode_apart mid.working c.args.n (with_head (mid.working.inodes c.args.n) (record c.args.head { size = c.args.size })) x apart
     ∙ (first.heads told).others x apart)
     c.set_head.ensures.set
+
+pub returns-in_err-cut_behind-clause-untangled : goal.returns-in_err-cut_behind-clause-untangled
+returns-in_err-cut_behind-clause-untangled g c told rules d e =
+    let p = err_from_is_err_and c.from_residual.result c.from_residual.ensures.1 in
+    c.in_err-cut_behind.ensures.untangled told rules d (ap Err (sym p.2) ∙ sym p.1 ∙ e)
+
+pub returns-in_err-cut_behind-clause-tangled : goal.returns-in_err-cut_behind-clause-tangled
+returns-in_err-cut_behind-clause-tangled g c told d e =
+    let p = err_from_is_err_and c.from_residual.result c.from_residual.ensures.1 in
+    c.in_err-cut_behind.ensures.tangled told d (ap Err (sym p.2) ∙ sym p.1 ∙ e)
+
+pub returns-clause-untangled : goal.returns-clause-untangled
+returns-clause-untangled g c told rules =
+    let mid = g.S.Store.state c.cut_behind.new.s in
+    let told_mid : Told mid = ap (λ (o : Origin). o.tells) c.in_ok-cut_behind.ensures.called.origin ∙ told in
+    inode_untangled mid (g.S.Store.state c.set_head.new.self) c.args.n c.set_head.result (g.met.S.Store.working_is_view c.cut_behind.new.s told_mid c.in_ok-cut_behind.ensures.called.live) (c.set_head.ensures.damage told_mid)
+
+pub returns-clause-tangled : goal.returns-clause-tangled
+returns-clause-tangled g c told d e kind =
+    let mid = g.S.Store.state c.cut_behind.new.s in
+    let told_mid : Told mid = ap (λ (o : Origin). o.tells) c.in_ok-cut_behind.ensures.called.origin ∙ told in
+    absurd (inode_untangled mid (g.S.Store.state c.set_head.new.self) c.args.n c.set_head.result (g.met.S.Store.working_is_view c.cut_behind.new.s told_mid c.in_ok-cut_behind.ensures.called.live) (c.set_head.ensures.damage told_mid) d e kind)

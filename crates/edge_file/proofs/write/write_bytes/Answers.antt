@@ -3,10 +3,10 @@ use Rattle.std.proofs.lemmas.Result.{err_from_is_err_and}
 use Rattle.std.specs.Prelude.{Err}
 use Rattle.std.proofs.Math.Seq.{take-add}
 use Rattle.edge_base.specs.declared.geometry.Request.{Request}
-use Rattle.edge_tree.specs.Own.{UndamagedIf, IsNodeShaped}
+use Rattle.edge_tree.specs.Own.{UntangledIf, UndamagedIf, IsNodeShaped}
 use Rattle.edge_file.specs.Writing.{RoomForBytes, WritesBytes}
-use Rattle.edge_file.proofs.LoopLaws.{WrittenSoFar}
-use Rattle.edge_file.proofs.StepLaws.{piece_place, first_written, next_written, next_undamaged}
+use Rattle.edge_file.proofs.LoopLaws.{WrittenSoFar, told_on}
+use Rattle.edge_file.proofs.StepLaws.{piece_place, first_written, next_written, next_undamaged, next_untangled}
 use Rattle.edge_file.proofs.write.write_bytes.Goals as goal
 
 pub loop-done-init : goal.loop-done-init
@@ -34,6 +34,34 @@ returns-in_err-write_in_block-clause-undamaged g c told shaped room d e =
     let p = err_from_is_err_and c.from_residual.result c.from_residual.ensures.1 in
     next_undamaged old now c.args.n c.args.at a (g.met.S.Store.is_geometry c.args.s.now) (λ told. g.met.S.Store.working_is_view c.args.s.now told c.requires.live) (λ told. g.met.S.Store.working_is_view c.loop-done.s told so.goes_on.live) so
     (Err c.in_err-write_in_block.field-0.0) rest (length part) fewer undamaged told shaped (subst (λ (k : ℕ). RoomForBytes old c.args.n c.args.at k) (sym all) room) d (ap Err (sym p.2) ∙ sym p.1 ∙ e)
+
+pub returns-in_err-write_in_block-clause-untangled : goal.returns-in_err-write_in_block-clause-untangled
+returns-in_err-write_in_block-clause-untangled g c told rules d e =
+    let old = g.S.Store.state c.args.s.now in
+    let now = g.S.Store.state c.loop-done.s in
+    let so = c.loop-done.invariant.1 in
+    let low = c.loop-done.invariant.0 in
+    let done = c.loop-done.done in
+    let piece = c.first_piece-piece.result in
+    let list = c.args.bytes.now in
+    let a = take done list in
+    let rest = length list - done in
+    let long : length a ≡ done = omega (arith, length-take done list) in
+    let all : length a + rest ≡ length list = omega (arith, long) in
+    let part = take (done + piece.len - done) (drop done list) in
+    let fewer : length part ≤ rest = omega (arith, length-take (done + piece.len - done) (drop done list), length-drop done list) in
+    let place : piece.index * now.origin.request.block_size + piece.start ≡ c.args.at + length a =
+    ap (λ (r : Request). piece.index * r.block_size + piece.start) (sym c.geometry.ensures) ∙ piece_place c.geometry.result.block_size c.args.at done piece.index piece.start c.first_piece-piece.ensures.index c.first_piece-piece.ensures.start
+    ∙ ap (λ (k : ℕ). c.args.at + k) (sym long) in
+    let untangled = subst (λ (x : ℕ). UntangledIf {T = Unit {0}} now (RoomForBytes now c.args.n x (length part)) (Err c.in_err-write_in_block.field-0.0)) place c.in_err-write_in_block.ensures.untangled in
+    let p = err_from_is_err_and c.from_residual.result c.from_residual.ensures.1 in
+    next_untangled old now c.args.n c.args.at a (g.met.S.Store.is_geometry c.args.s.now) (λ told. g.met.S.Store.working_is_view c.args.s.now told c.requires.live) (λ told. g.met.S.Store.working_is_view c.loop-done.s told so.goes_on.live) so
+    (Err c.in_err-write_in_block.field-0.0) rest (length part) fewer untangled told (rules.0, subst (λ (k : ℕ). RoomForBytes old c.args.n c.args.at k) (sym all) rules.1) d (ap Err (sym p.2) ∙ sym p.1 ∙ e)
+
+pub returns-in_err-write_in_block-clause-tangled : goal.returns-in_err-write_in_block-clause-tangled
+returns-in_err-write_in_block-clause-tangled g c told d e =
+    let p = err_from_is_err_and c.from_residual.result c.from_residual.ensures.1 in
+    c.in_err-write_in_block.ensures.tangled (told_on (g.S.Store.state c.args.s.now) (g.S.Store.state c.loop-done.s) c.loop-done.invariant.1.goes_on told) d (ap Err (sym p.2) ∙ sym p.1 ∙ e)
 
 pub loop-done-preserved : goal.loop-done-preserved
 loop-done-preserved g c =

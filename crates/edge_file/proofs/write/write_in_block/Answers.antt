@@ -1,32 +1,47 @@
-use Rattle.std.proofs.Common.{◌∙◌, ◌+◌, ◌*◌, ◌≤◌, ◌∷◌, [], ℕ, length, sym, ap, subst}
+use Rattle.std.proofs.Common.{◌∙◌, ℕ, length, sym, ap, subst}
 use Rattle.std.proofs.lemmas.Result.{err_from_is_err_and}
 use Rattle.std.specs.Prelude.{Err}
+use Rattle.edge_base.specs.declared.form.Form.TheVariants.{Plain}
 use Rattle.edge_base.specs.outside.Below.{Origin}
 use Rattle.edge_store.specs.Effects.{BytesSet}
 use Rattle.edge_store.specs.State.{Told}
-use Rattle.edge_store.specs.View.{View, free_now, head_of_inode}
-use Rattle.edge_moves.specs.Writable.{fresh_on_chain}
+use Rattle.edge_store.specs.View.{View, head_of_inode}
 use Rattle.edge_moves.proofs.SlotLaws.{entries_fit, some_pointers_fit}
 use Rattle.edge_moves.proofs.SpentLaws.{whole_by_head}
-use Rattle.edge_file.specs.Bytes.{blocks_under}
+use Rattle.edge_tree.proofs.KindLaws.{block_untangled}
 use Rattle.edge_file.proofs.AnswerLaws.{on_ok_map, same_fault}
-use Rattle.edge_file.proofs.BlockLaws.{fresh_on-chain, written_block}
-use Rattle.edge_file.proofs.JoinLaws.{fresh_on-alike}
-use Rattle.edge_file.proofs.RangeLaws.{block_alone}
-use Rattle.edge_file.proofs.StepLaws.{some_bytes, view_too}
+use Rattle.edge_file.proofs.BlockLaws.{written_block}
+use Rattle.edge_file.proofs.StepLaws.{room_alone, some_bytes, view_too}
 use Rattle.edge_file.proofs.write.write_in_block.Goals as goal
 
 pub returns-in_err-block-clause-undamaged : goal.returns-in_err-block-clause-undamaged
 returns-in_err-block-clause-undamaged g c told shaped room d e =
-    let old = g.S.Store.state c.args.s.now in
-    let r = old.origin.request in
-    let start = c.args.i * r.block_size + c.args.start in
-    let len = length c.args.bytes.now in
-    let alone = fresh_on-alike r old.committed old.working old.working c.args.n (c.args.i ∷ []) (blocks_under r start len) [] (block_alone r c.args.i c.args.start len c.requires.index c.requires.some c.requires.range) in
-    let chain : fresh_on_chain r old.committed old.working c.args.n c.args.i ≤ free_now r old.committed old.working =
-    subst (λ (k : ℕ). k ≤ free_now r old.committed old.working) (sym alone ∙ fresh_on-chain r old.committed old.working c.args.n c.args.i) room in
+    let chain = room_alone (g.S.Store.state c.args.s.now) c.args.n c.args.i c.args.start (length c.args.bytes.now) c.requires.index c.requires.some c.requires.range room in
     let p = err_from_is_err_and c.from_residual.result c.from_residual.ensures.1 in
     c.in_err-block.ensures.undamaged told shaped chain d (ap Err (sym p.2) ∙ same_fault _ _ (sym p.1 ∙ e))
+
+pub returns-in_err-block-clause-untangled : goal.returns-in_err-block-clause-untangled
+returns-in_err-block-clause-untangled g c told room d e =
+    let chain = room_alone (g.S.Store.state c.args.s.now) c.args.n c.args.i c.args.start (length c.args.bytes.now) c.requires.index c.requires.some c.requires.range room in
+    let p = err_from_is_err_and c.from_residual.result c.from_residual.ensures.1 in
+    c.in_err-block.ensures.untangled told chain d (ap Err (sym p.2) ∙ same_fault _ _ (sym p.1 ∙ e))
+
+pub returns-in_err-block-clause-tangled : goal.returns-in_err-block-clause-tangled
+returns-in_err-block-clause-tangled g c told d e =
+    let p = err_from_is_err_and c.from_residual.result c.from_residual.ensures.1 in
+    c.in_err-block.ensures.tangled told d (ap Err (sym p.2) ∙ same_fault _ _ (sym p.1 ∙ e))
+
+pub returns-clause-untangled : goal.returns-clause-untangled
+returns-clause-untangled g c told room =
+    let mid = g.S.Store.state c.make_writable.new.s in
+    let told_mid : Told mid = ap (λ (o : Origin). o.tells) c.in_ok-block.ensures.called.origin ∙ told in
+    block_untangled mid (g.S.Store.state c.write_block.new.self) Plain c.args.n c.in_ok-block.block c.write_block.result (c.write_block.ensures.damage told_mid)
+
+pub returns-clause-tangled : goal.returns-clause-tangled
+returns-clause-tangled g c told d e kind =
+    let mid = g.S.Store.state c.make_writable.new.s in
+    let told_mid : Told mid = ap (λ (o : Origin). o.tells) c.in_ok-block.ensures.called.origin ∙ told in
+    absurd (block_untangled mid (g.S.Store.state c.write_block.new.self) Plain c.args.n c.in_ok-block.block c.write_block.result (c.write_block.ensures.damage told_mid) d e kind)
 
 pub returns-clause-heads : goal.returns-clause-heads
 returns-clause-heads g c =

@@ -10,6 +10,7 @@ use Rattle.edge_store.specs.View.{IsView, content, is_allocable, is_owned_by, is
 use Rattle.edge_store.proofs.ViewLaws.{no_damage_of}
 use Rattle.edge_moves.specs.Renewal.{cost}
 use Rattle.edge_moves.proofs.StepLaws.{not_zero}
+use Rattle.edge_tree.proofs.KindLaws.{block_untangled}
 use Rattle.edge_tree.proofs.LinkLaws.{spot_of_link}
 use Rattle.edge_tree.proofs.OwnLaws.{set_pointer_leads}
 use Rattle.edge_tree.specs.Blank.{BlockFilled}
@@ -69,6 +70,17 @@ returns-in_err-set_pointer-clause-undamaged g c told rules room d e =
     let p = err_from_is_err_and c.from_residual-in_err-set_pointer.result c.from_residual-in_err-set_pointer.ensures.1 in
     let met = (c.in_err-set_pointer.ensures.damage told_far).that d (ap Err (one_fault _ _ (ap Err (sym p.2) ∙ sym p.1 ∙ e))) in
     let h : Some d ≡ None = sym met ∙ no_damage_of far.working at.form at.owner at.block spot in cc
+
+pub returns-in_err-set_pointer-clause-tangled : goal.returns-in_err-set_pointer-clause-tangled
+returns-in_err-set_pointer-clause-tangled g c told d e kind =
+    let mid = g.S.Store.state c.pointer_link.new.s in
+    let far = g.S.Store.state c.renew.new.s in
+    let at = c.args.at in
+    let told_mid : Told mid = ap (λ o. o.tells) c.in_ok-block.ensures.called.origin ∙ told in
+    let told_far : Told far = ap (λ o. o.tells) c.in_ok-b.ensures.called.origin ∙ told_mid in
+    let p = err_from_is_err_and c.from_residual-in_err-set_pointer.result c.from_residual-in_err-set_pointer.ensures.1 in
+    let same = ap Err (one_fault _ _ (ap Err (sym p.2) ∙ sym p.1 ∙ e)) in
+    absurd (block_untangled far (g.S.Store.state c.set_pointer.new.self) at.form at.owner at.block (Err c.in_err-set_pointer.field-0.0) (c.in_err-set_pointer.ensures.damage told_far) d same kind)
 
 pub returns-in_ok-set_pointer-clause-leads : goal.returns-in_ok-set_pointer-clause-leads
 returns-in_ok-set_pointer-clause-leads g c told =

@@ -49,6 +49,11 @@ returns-clause-undamaged g c told tidy room =
     view view_mid tidy.1 tidy.2 tidy.0 c.args.i c.args.outer c.in_ok-block.block c.requires.entry c.requires.outer c.requires.form (same_under _ _ _ _ _ _ _ _ (first.renewed told)) in
     c.renew_pointer.ensures.undamaged told_mid (first.readable told_mid, subst (λ (o : Origin). IsSound o.request mid.working c.args.n) (sym first.called.origin) sound) (rw (first.called.origin, first.point.committed) left)
 
+pub returns-clause-tangled : goal.returns-clause-tangled
+returns-clause-tangled g c told =
+    let told_mid : Told (g.S.Store.state c.own_under.new.s) = ap (λ o. o.tells) c.in_ok-block.ensures.called.origin ∙ told in
+    c.renew_pointer.ensures.tangled told_mid
+
 pub returns-clause-damage : goal.returns-clause-damage
 returns-clause-damage g c told d e =
     let told_mid : Told (g.S.Store.state c.own_under.new.s) = ap (λ o. o.tells) c.in_ok-block.ensures.called.origin ∙ told in
