@@ -11,7 +11,7 @@ use Rattle.edge_base.specs.declared.form.Form.TheVariants.{Plain, Indirect, Doub
 use Rattle.edge_base.specs.declared.geometry.Request.{Request}
 use Rattle.edge_base.specs.layout.Places.{max_blocks_of, pointers_of}
 use Rattle.edge_base.specs.tree.Chains.{is_on_chain}
-use Rattle.edge_base.specs.tree.Positions.{Position, data_at, indirect_at, double_at, chain, has, count_of}
+use Rattle.edge_base.specs.tree.Positions.{Position, same_position, data_at, indirect_at, double_at, chain, has, count_of}
 use Rattle.edge_store.specs.Changed.{has_index}
 use Rattle.edge_store.specs.Fresh.{is_dirty, fresh_count}
 use Rattle.edge_store.specs.View.{View}
@@ -20,13 +20,13 @@ use Rattle.edge_moves.specs.Writable.{fresh_on_chain}
 use Rattle.edge_shape.specs.Cut.{is_split}
 use Rattle.edge_shape.specs.Shape.{HasShape}
 use Rattle.edge_shape.specs.Where.{cut_need}
-use Rattle.edge_shape.proofs.ListLaws.{any_of, found, is_false}
+use Rattle.edge_shape.proofs.ListLaws.{any-filter, any_of, found, is_false}
 use Rattle.edge_count.specs.Beside.{fresh_beside, row_of, table_of}
 use Rattle.edge_count.specs.Cuts.{removed}
 use Rattle.edge_count.proofs.ChainLaws.{chain_once, count_once, fresh_on_chain-count}
-use Rattle.edge_count.proofs.JoinLaws.{write_and_cut}
+use Rattle.edge_count.proofs.JoinLaws.{same_named, write_and_cut}
 use Rattle.edge_count.proofs.RunLaws.{div_mono}
-use Rattle.edge_count.proofs.WriteLaws.{fresh_two, one_chain}
+use Rattle.edge_count.proofs.WriteLaws.{any_map, fresh_two, one_chain}
 
 -- ---- a chain, position by position
 
@@ -327,3 +327,42 @@ module _ (g : Request) (c v : View) (n i k : ℕ) where
 pub cost_is : (b : Bool) → ◌≡◌ {A = ℕ} (cond (not b) 1 0) (cond b 0 1)
 cost_is true = refl
 cost_is false = refl
+
+-- ---- chains of two nodes
+
+pub chains_apart : (g : Request) (c v : View) (n m i k : ℕ) → n ≢ m → i < max_blocks_of g → k < max_blocks_of g
+    → fresh_count g c v (data_at n i ∷ data_at m k ∷ []) [] ≡ fresh_on_chain g c v n i + fresh_on_chain g c v m k
+chains_apart g c v n m i k apart low high = fresh_two g c v n i m k low high ∙ (λ t. all_set t + fresh_on_chain-count g c v m k high t)
+  where
+    none : (p : Position) → p.number ≡ n → has (chain g m k) p ≡ false
+    none p number = is_false (has (chain g m k) p) (λ h.
+        let parts = and_parts (p.number == m) (is_on_chain g p.form p.index k) (sym (one_chain g m k p) ∙ h) in
+        apart (sym number ∙ eqb-true p.number m parts.0))
+
+    same : (p : Position) → p.number ≡ n → (not (is_dirty g c v p) && not (has (chain g m k) p)) ≡ not (is_dirty g c v p)
+    same p number = by (not (is_dirty g c v p)) (has (chain g m k) p) (none p number)
+      where
+        by : (x a : Bool) → a ≡ false → (x && not a) ≡ x
+        by true a h = ap not h
+        by false a h = refl
+
+    all_set : count_of (filter (λ p. not (is_dirty g c v p) && not (has (chain g m k) p)) (chain g n i)) ≡ fresh_on_chain g c v n i
+    all_set =
+        sym (count_once (λ p. not (is_dirty g c v p) && not (has (chain g m k) p)) (chain g n i) (chain_once g n i))
+        ∙ chain_three g n i (λ p. not (is_dirty g c v p) && not (has (chain g m k) p))
+        ∙ three-alike (nat_lt i g.direct) (nat_lt (row g n i) g.indirect) _ _ _ _ _ _ (same (data_at n i) refl) (λ s. same (indirect_at n (row g n i)) refl) (λ s t. same (double_at n (table g n i)) refl)
+        ∙ sym (chain_three g n i (λ p. not (is_dirty g c v p)))
+
+-- ---- nothing that is cut off
+
+pub none_removed : (n i : ℕ) (indices : List ℕ) → ((x : ℕ) → has_index indices x ≡ true → x < i) → (p : Position) → has (removed n i indices) p ≡ has [] p
+none_removed n i indices early p = is_false (has (removed n i indices) p) (λ h.
+    let f = found (λ x. nat_le i x && same_position p (data_at n x)) indices
+    (sym (any-filter (λ x. nat_le i x) (λ x. same_position p (data_at n x)) indices) ∙ sym (any_map (same_position p) (data_at n) (filter (λ x. nat_le i x) indices)) ∙ h) in
+    let late = leb-true i f.0 (and_parts (nat_le i f.0) (same_position p (data_at n f.0)) f.2).0 in
+    let low = early f.0 f.1 in
+    omega (arith, late, low))
+
+pub nothing_cut : (g : Request) (c v : View) (n i : ℕ) (writes : List Position) (indices : List ℕ) → ((x : ℕ) → has_index indices x ≡ true → x < i)
+    → fresh_count g c v writes (removed n i indices) ≡ fresh_count g c v writes []
+nothing_cut g c v n i writes indices early = same_named g c v writes writes (removed n i indices) [] (λ p. refl) (none_removed n i indices early)

@@ -106,8 +106,9 @@ pub fn a_write_and_a_cut_count_together()
         ≡ fresh_on_chain g c v n k + cut_need g c v n i }
 {}
 
-/// Two chains of a node are counted as one of them and what the other has besides; a chain and a
-/// cut behind it, where the node has the data blocks of both, so too. Besides itself a chain has
+/// Two chains of a node are counted as one of them and what the other has besides, and those of two
+/// nodes as their sum; a chain and a cut behind it, where the node has the data blocks of both, as
+/// what the cut needs and what the chain has besides that of the first block that is cut off. Besides itself a chain has
 /// nothing; besides one below the same indirect node its data block alone, and below the same
 /// double-indirect node all but that; besides any other all.
 pub fn chains_of_a_node_count_together()
@@ -115,6 +116,10 @@ pub fn chains_of_a_node_count_together()
         → i < max_blocks_of g → k < max_blocks_of g
         → fresh_count g c v (data_at n i ∷ data_at n k ∷ []) []
         ≡ fresh_beside g c v n i k + fresh_on_chain g c v n k }
+    ensures apart { (g : Request) (c v : View) (n m i k : ℕ) → n ≢ m
+        → i < max_blocks_of g → k < max_blocks_of g
+        → fresh_count g c v (data_at n i ∷ data_at m k ∷ []) []
+        ≡ fresh_on_chain g c v n i + fresh_on_chain g c v m k }
     ensures cut { (g : Request) (c v : View) (n i k : ℕ) (indices : List ℕ)
         → HasShape g v n indices → i < k → i < max_blocks_of g
         → has_index indices i ≡ true → has_index indices k ≡ true

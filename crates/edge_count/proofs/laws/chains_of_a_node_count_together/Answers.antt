@@ -2,7 +2,7 @@ use Rattle.std.proofs.Common.{◌∙◌, ◌+◌, refl, sym, ap}
 use Rattle.edge_base.specs.tree.Positions.{data_at, double_at}
 use Rattle.edge_store.specs.Fresh.{is_dirty}
 use Rattle.edge_count.specs.Beside.{fresh_beside, table_of}
-use Rattle.edge_count.proofs.BesideLaws.{beside_apart, beside_in_row, beside_in_table, beside_itself, chain_beside_cut, cost_is, two_chains}
+use Rattle.edge_count.proofs.BesideLaws.{beside_apart, beside_in_row, beside_in_table, beside_itself, chain_beside_cut, chains_apart, cost_is, two_chains}
 use Rattle.edge_count.proofs.laws.chains_of_a_node_count_together.Goals as goal
 
 pub returns-clause-two : goal.returns-clause-two
@@ -24,3 +24,6 @@ returns-clause-table c g committed working n i k past_i past_k rows past_row pas
 
 pub returns-clause-others : goal.returns-clause-others
 returns-clause-others c g committed working n i k apart rows tables = beside_apart g committed working n i k apart rows tables
+
+pub returns-clause-apart : goal.returns-clause-apart
+returns-clause-apart c = chains_apart
