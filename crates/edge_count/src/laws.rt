@@ -108,9 +108,9 @@ pub fn a_write_and_a_cut_count_together()
 
 /// Two chains of a node are counted as one of them and what the other has besides, and those of two
 /// nodes as their sum; a chain and a cut behind it, where the node has the data blocks of both, as
-/// what the cut needs and what the chain has besides that of the first block that is cut off. Besides itself a chain has
-/// nothing; besides one below the same indirect node its data block alone, and below the same
-/// double-indirect node all but that; besides any other all.
+/// what the cut needs and what the chain has besides that of the first block that is cut off.
+/// Besides itself a chain has nothing; besides one below the same indirect node its data block
+/// alone, and below the same double-indirect node all but that; besides any other all.
 pub fn chains_of_a_node_count_together()
     ensures two { (g : Request) (c v : View) (n i k : ℕ)
         → i < max_blocks_of g → k < max_blocks_of g
