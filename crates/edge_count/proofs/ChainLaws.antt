@@ -14,11 +14,11 @@ use Rattle.edge_count.proofs.WriteLaws.{fresh_chain}
 use Rattle.edge_count.proofs.TouchLaws.{above_plain}
 
 -- no position is listed twice
-abbrev Once : List Position → Type 0
+abbrev pub Once : List Position → Type 0
 Once [] = Unit {0}
 Once (p ∷ ps) = (has ps p ≡ false) × Once ps
 
-count_once : (test : Position → Bool) (ps : List Position) → Once ps → count_by test ps ≡ count_of (filter test ps)
+pub count_once : (test : Position → Bool) (ps : List Position) → Once ps → count_by test ps ≡ count_of (filter test ps)
 count_once test [] once = refl
 count_once test (p ∷ ps) once = sum_by-cons (λ q. cond (test q) 1 0) p ps ∙ by (test p) (count_once test ps once.1)
   where
@@ -30,7 +30,7 @@ count_once test (p ∷ ps) once = sum_by-cons (λ q. cond (test q) 1 0) p ps ∙
     by true rest = let more : count_of (p ∷ filter test ps) ≡ suc (count_of (filter test ps)) = λ t. length (cond (new t) (unique_keys same_position (filter test ps)) (p ∷ unique_keys same_position (filter test ps))) in omega (arith, rest, more)
     by false rest = omega (arith, rest)
 
-chain_once : (g : Request) (n i : ℕ) → Once (chain g n i)
+pub chain_once : (g : Request) (n i : ℕ) → Once (chain g n i)
 chain_once g n i = (above_plain g n i i, by (ltb i g.direct) (ltb ((i - g.direct) / pointers_of g) g.indirect))
   where
     off : (s t : Bool) → (((s && false) && t) || false) ≡ false

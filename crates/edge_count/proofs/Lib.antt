@@ -10,3 +10,4 @@ pub mod KeptLaws
 pub mod WriteStepLaws
 pub mod CutStepLaws
 pub mod JoinLaws
+pub mod BesideLaws

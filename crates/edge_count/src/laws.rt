@@ -1,13 +1,14 @@
 //! Laws over the definitions of `specs/`: functions without effects.
 
-ghost use Rattle.std.specs.Prelude.{◌≡◌, ◌≢◌, ◌<◌, ◌≤◌, ℕ, ◌+◌, ◌-◌, ◌&&◌, not, Bool, true, false, List, [], ◌∷◌, ◌++◌, map, filter, flat_map, count_by, Option};
+ghost use Rattle.std.specs.Prelude.{◌≡◌, ◌≢◌, ◌<◌, ◌≤◌, ℕ, ◌+◌, ◌-◌, ◌&&◌, not, Bool, true, false, if◌then◌else◌, List, [], ◌∷◌, ◌++◌, map, filter, flat_map, count_by, Option};
 ghost use Rattle.std.specs.List.{range_with_len};
 ghost use Rattle.edge_base.specs.declared.form.Form.{Form};
 ghost use Rattle.edge_base.specs.declared.form.Form.TheVariants.{Plain, Indirect, Double};
 ghost use Rattle.edge_base.specs.declared.geometry.Request.{Request};
 ghost use Rattle.edge_base.specs.declared.node.Head.{Head};
 ghost use Rattle.edge_base.specs.layout.Places.{IsGeometry, max_blocks_of};
-ghost use Rattle.edge_base.specs.tree.Positions.{Position, data_at, ancestors, chain, positions_of, has, count_of};
+ghost use Rattle.edge_base.specs.tree.Positions.{Position, data_at, double_at, ancestors, chain, positions_of, has, count_of};
+ghost use Rattle.edge_store.specs.Changed.{has_index};
 ghost use Rattle.edge_store.specs.Effects.{HeadSet, BytesSet};
 ghost use Rattle.edge_store.specs.Frames.{IsNoNodeOf};
 ghost use Rattle.edge_store.specs.Fresh.{is_dirty, fresh_count};
@@ -17,6 +18,7 @@ ghost use Rattle.edge_moves.specs.Writable.{IsMadeWritable, fresh_on_chain};
 ghost use Rattle.edge_shape.specs.Cut.{is_split, IsCut};
 ghost use Rattle.edge_shape.specs.Shape.{HasShape, before};
 ghost use Rattle.edge_shape.specs.Where.{cut_need};
+ghost use Rattle.edge_count.specs.Beside.{fresh_beside, row_of, table_of};
 ghost use Rattle.edge_count.specs.Cuts.{removed};
 ghost use Rattle.edge_count.specs.Frames.{KeepsBlocks, AreApart, AreKept, AreOfOrKept, AreElsewhere, AreAmong};
 ghost use Rattle.edge_count.specs.Runs.{IsRanges, run_first, run_count};
@@ -102,6 +104,42 @@ pub fn a_write_and_a_cut_count_together()
         + count_of (filter (λ p. is_split g i indices p.form p.index && not (is_dirty g c v p))
         (chain g n k))
         ≡ fresh_on_chain g c v n k + cut_need g c v n i }
+{}
+
+/// Two chains of a node are counted as one of them and what the other has besides, and those of two
+/// nodes as their sum; a chain and a cut behind it, where the node has the data blocks of both, as
+/// what the cut needs and what the chain has besides that of the first block that is cut off.
+/// Besides itself a chain has nothing; besides one below the same indirect node its data block
+/// alone, and below the same double-indirect node all but that; besides any other all.
+pub fn chains_of_a_node_count_together()
+    ensures two { (g : Request) (c v : View) (n i k : ℕ)
+        → i < max_blocks_of g → k < max_blocks_of g
+        → fresh_count g c v (data_at n i ∷ data_at n k ∷ []) []
+        ≡ fresh_beside g c v n i k + fresh_on_chain g c v n k }
+    ensures apart { (g : Request) (c v : View) (n m i k : ℕ) → n ≢ m
+        → i < max_blocks_of g → k < max_blocks_of g
+        → fresh_count g c v (data_at n i ∷ data_at m k ∷ []) []
+        ≡ fresh_on_chain g c v n i + fresh_on_chain g c v m k }
+    ensures cut { (g : Request) (c v : View) (n i k : ℕ) (indices : List ℕ)
+        → HasShape g v n indices → i < k → i < max_blocks_of g
+        → has_index indices i ≡ true → has_index indices k ≡ true
+        → fresh_count g c v (data_at n i ∷ []) (removed n k indices)
+        ≡ fresh_beside g c v n i k + cut_need g c v n k }
+    ensures itself { (g : Request) (c v : View) (n i : ℕ) → fresh_beside g c v n i i ≡ 0 }
+    ensures row { (g : Request) (c v : View) (n i k : ℕ)
+        → i ≢ k → g.direct ≤ k → row_of g i ≡ row_of g k
+        → fresh_beside g c v n i k ≡ (if is_dirty g c v (data_at n i) then 0 else 1) }
+    ensures table { (g : Request) (c v : View) (n i k : ℕ)
+        → g.direct ≤ i → g.direct ≤ k → row_of g i ≢ row_of g k
+        → g.indirect ≤ row_of g i → g.indirect ≤ row_of g k → table_of g i ≡ table_of g k
+        → fresh_beside g c v n i k
+        + (if is_dirty g c v (double_at n (table_of g i)) then 0 else 1)
+        ≡ fresh_on_chain g c v n i }
+    ensures others { (g : Request) (c v : View) (n i k : ℕ) → i ≢ k
+        → (g.direct ≤ i → g.direct ≤ k → row_of g i ≢ row_of g k)
+        → (g.direct ≤ i → g.direct ≤ k → g.indirect ≤ row_of g i → g.indirect ≤ row_of g k
+        → table_of g i ≢ table_of g k)
+        → fresh_beside g c v n i k ≡ fresh_on_chain g c v n i }
 {}
 
 /// A node that goes whole makes nothing dirty, alone and besides what is at other nodes.

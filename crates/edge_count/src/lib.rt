@@ -13,5 +13,5 @@ pub use laws::{
     a_cut_takes_no_more_than_it_needs, a_node_that_goes_whole_costs_nothing,
     a_step_keeps_other_nodes, a_step_takes_its_part_of_a_change,
     a_step_that_sets_no_pointer_keeps_nodes, a_write_and_a_cut_count_together,
-    positions_count_by_form, writes_make_their_chains_dirty,
+    chains_of_a_node_count_together, positions_count_by_form, writes_make_their_chains_dirty,
 };

@@ -11,12 +11,12 @@ use Rattle.edge_dir.proofs.SeenLaws.{empty_of_block, entry_of_block}
 
 pub sees_entry : (s : StoreState) (d k : ℕ) (list : List ℕ) (entry : Option (ℕ × ℕ)) → (Told s → k < slots_below_end s.origin.request s.working d)
     → IsEntryOfBlock s d (k / slots_in_block s.origin.request) (k % slots_in_block s.origin.request) list entry → SeesEntry s d k list entry
-sees_entry s d k list (Some entry) low is = λ told. let h = is told in (low told, entry_of_block s.origin.request s.working d k h.0 list entry h.1 h.2)
+sees_entry s d k list (Some entry) low is = λ told. let h = is told in (low told, entry_of_block s.origin.request s.working d k h.0 list entry h.1 h.2, h.2.1)
 sees_entry s d k list None low is = λ told _. let h = is told in empty_of_block s.origin.request s.working d k h.0 list h.1 h.2
 
 pub entry_in_slots : (s : StoreState) (d k : ℕ) (list : List ℕ) (entry : Option (ℕ × ℕ)) → IsWithinLimits s.origin.request → SeesEntry s d k list entry
     → OnSlots s d (λ slots. IsEntryIn slots k list entry)
 entry_in_slots s d k list (Some entry) limits sees = λ told slots parent node.
     let h = sees told in
-    slot_is s.origin.request s.working d slots parent node limits k (Some (entry_of (take entry.1 list) entry.0)) h.0 h.1
+    (slot_is s.origin.request s.working d slots parent node limits k (Some (entry_of (take entry.1 list) entry.0)) h.0 h.1, h.2)
 entry_in_slots s d k list None limits sees = λ told slots parent node. entry_is s.origin.request s.working d slots parent node limits k (sees told)

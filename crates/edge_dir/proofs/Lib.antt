@@ -9,4 +9,5 @@ pub mod WriteLaws
 pub mod SetLaws
 pub mod EntryLaws
 pub mod StoreLaws
+pub mod BoundLaws
 pub mod LoopLaws

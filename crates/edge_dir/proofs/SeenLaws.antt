@@ -185,7 +185,7 @@ free_at_end g v d before = record { most = omega arith; here = λ low. absurd (o
 -- slot k, as it stands in its block
 pub entry_of_block : (g : Request) (v : View) (d k : ℕ) (list name : List ℕ) (entry : ℕ × ℕ) → content_at v Plain (data_block g v d (k / slots_in_block g)) ≡ bytes list
     → SaysEntry g (slot_in g list (k % slots_in_block g)) name (Some entry) → HasSlot g v d k (Some (entry_of (take entry.1 name) entry.0))
-entry_of_block g v d k list name entry is says = record { list = list; content = is; spelled = says.spelled; allowed = says.allowed }
+entry_of_block g v d k list name entry is says = record { list = list; content = is; spelled = says.0.spelled; allowed = says.0.allowed }
 
 pub empty_of_block : (g : Request) (v : View) (d k : ℕ) (list name : List ℕ) → content_at v Plain (data_block g v d (k / slots_in_block g)) ≡ bytes list
     → SaysEntry g (slot_in g list (k % slots_in_block g)) name None → HasSlot g v d k None

@@ -1,5 +1,5 @@
 -- A directory of which a slot was written.
-use Rattle.std.proofs.Common.{◌≡◌, ◌∙◌, ℕ, ◌+◌, ◌-◌, ◌*◌, ◌/◌, ◌%◌, ◌<◌, ◌≤◌, ◌==◌, ◌&&◌, ◌||◌, ◌⊎◌, inl, inr, Bool, true, false, cond, max, List, [], ◌∷◌, ◌++◌, length, Option, Some, refl, sym, ap, subst, arith}
+use Rattle.std.proofs.Common.{◌≡◌, ◌∙◌, ℕ, ◌+◌, ◌-◌, ◌*◌, ◌/◌, ◌%◌, ◌<◌, ◌≤◌, ◌==◌, ◌&&◌, ◌||◌, ◌⊎◌, inl, inr, Bool, true, false, cond, max, List, [], ◌∷◌, ◌++◌, length, Option, Some, None, refl, sym, ap, subst, arith}
 use Rattle.std.specs.Prelude.{nat_le, nat_lt, slice_index}
 use Rattle.std.specs.List.{list_any, range_with_len}
 use Rattle.std.proofs.lemmas.Bool.{cases_lt, ltb-true}
@@ -20,6 +20,7 @@ use Rattle.edge_store.proofs.ViewLaws.{whole_with_head}
 use Rattle.edge_moves.proofs.SlotLaws.{entries_fit, some_pointers_fit}
 use Rattle.edge_file.specs.Bytes.{blocks_under, with_bytes}
 use Rattle.edge_file.specs.Rewritten.{IsWritten}
+use Rattle.edge_file.specs.Writing.{grown}
 use Rattle.edge_file.proofs.ChangeLaws.{rewritten_changed, rewritten_dirty}
 use Rattle.edge_file.proofs.FileLaws.{file_written}
 use Rattle.edge_file.proofs.RangeLaws.{block_alone, lists-append, under_in_range}
@@ -200,3 +201,8 @@ size_after b count k was behind end after is low is_end blocks = elim (cases_lt 
       let result : max (max was behind) end ≡ b * (k + 1) = omega (arith, is, low, is_end, most, turned, turned_end) in
       result ∙ ap (λ (x : ℕ). b * x) (sym same)
 ]
+
+-- a head that has grown twice
+pub grown_twice : (o : Option Head) (less more : ℕ) → less ≤ more → grown (grown o less) more ≡ grown o more
+grown_twice (Some head) less more low = ap (λ (n : ℕ). Some (record head { size = n })) (let e : max (max head.size less) more ≡ max head.size more = omega (arith, low) in e)
+grown_twice None less more low = refl

@@ -69,7 +69,7 @@ free_in (Missing free) = free
 
 -- the number and the length of the name in slot k, whose bytes were put first into a list; None where the slot has no name
 abbrev pub IsEntryIn : Slots → ℕ → List ℕ → Option (ℕ × ℕ) → Type 0
-IsEntryIn slots k list (Some entry) = slot_of slots k ≡ Some (entry_of (take entry.1 list) entry.0)
+IsEntryIn slots k list (Some entry) = (slot_of slots k ≡ Some (entry_of (take entry.1 list) entry.0)) × (length (take entry.1 list) ≡ entry.1)
 IsEntryIn slots k list None = slot_of slots k ≡ None
 
 -- ---- blocks
@@ -116,7 +116,7 @@ IsLastIn s d i below last = Told s → (list : List ℕ) × (content_at s.workin
 
 -- the number and the length of the name in a slot, whose bytes were put first into a list; None where it is empty
 abbrev pub SaysEntry : Request → List ℕ → List ℕ → Option (ℕ × ℕ) → Type 0
-SaysEntry g slot list (Some entry) = HasEntry g slot (take entry.1 list) entry.0
+SaysEntry g slot list (Some entry) = HasEntry g slot (take entry.1 list) entry.0 × (length (take entry.1 list) ≡ entry.1)
 SaysEntry g slot list None = IsEmpty g slot
 
 -- the same of slot k of data block i of node d

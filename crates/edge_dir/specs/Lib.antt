@@ -1,3 +1,4 @@
 pub mod Directory
 pub mod Looked
+pub mod Bounds
 pub mod Written

@@ -1,5 +1,5 @@
 -- What the slots of a node of a view have, whether or not it is a directory that keeps its rules. s is a store as a call begins.
-use Rattle.std.specs.Prelude.{◌≡◌, ◌≢◌, ◌<◌, ◌≤◌, ◌+◌, ◌-◌, ◌*◌, ◌/◌, ◌%◌, ◌==◌, ℕ, Bool, List, take, IfSome, Option, Some, None}
+use Rattle.std.specs.Prelude.{◌≡◌, ◌≢◌, ◌<◌, ◌≤◌, ◌+◌, ◌-◌, ◌*◌, ◌/◌, ◌%◌, ◌==◌, ℕ, Bool, List, length, take, IfSome, Option, Some, None}
 use Rattle.edge_base.specs.declared.form.Form.TheVariants.{Plain}
 use Rattle.edge_base.specs.declared.geometry.Request.{Request}
 use Rattle.edge_base.specs.tree.NodeRules.{IsEntry}
@@ -91,5 +91,5 @@ SeesPlace s d name (Free slot) = Told s → LacksBefore s.origin.request s.worki
 -- the number and the length of the name in slot k, whose bytes were put first into a list
 abbrev pub SeesEntry : StoreState → ℕ → ℕ → List ℕ → Option (ℕ × ℕ) → Type 0
 SeesEntry s d k list (Some entry) = Told s → (k < slots_below_end s.origin.request s.working d)
-    × HasSlot s.origin.request s.working d k (Some (entry_of (take entry.1 list) entry.0))
+    × HasSlot s.origin.request s.working d k (Some (entry_of (take entry.1 list) entry.0)) × (length (take entry.1 list) ≡ entry.1)
 SeesEntry s d k list None = Told s → k < slots_below_end s.origin.request s.working d → HasSlot s.origin.request s.working d k None

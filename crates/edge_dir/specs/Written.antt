@@ -14,7 +14,7 @@ use Rattle.edge_store.specs.State.{StoreState, Told}
 use Rattle.edge_store.specs.View.{View, head_of_inode}
 use Rattle.edge_slots.specs.Slot.{entry_of}
 use Rattle.edge_file.specs.Bytes.{with_bytes}
-use Rattle.edge_file.specs.Writing.{RoomForBytes}
+use Rattle.edge_file.specs.Writing.{GrowsTo, RoomForBytes}
 use Rattle.edge_dir.specs.Directory.{OnSlots, slot_of}
 
 -- the slots are others in slot k alone, which has come to be this one
@@ -35,6 +35,10 @@ pub record SlotsChanged (g : Request) (c v w : View) (d : ℕ) (slots after : Sl
 -- where slot k begins
 abbrev pub place_of_slot : Request → ℕ → ℕ
 place_of_slot g k = k / slots_in_block g * g.block_size + k % slots_in_block g * (4 + g.name_max)
+
+-- node d has at least the size at which the data block of slot k ends, and its head is as it was in all else
+abbrev pub GrowsToBlock : StoreState → StoreState → ℕ → ℕ → Type 0
+GrowsToBlock old new d k = GrowsTo old new d ((k / slots_in_block old.origin.request + 1) * old.origin.request.block_size)
 
 -- the bytes of a slot with others put first into them are those of another
 abbrev pub BecomesSlot : Request → Option Entry → List ℕ → Option Entry → Type 0

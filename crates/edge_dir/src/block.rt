@@ -6,6 +6,7 @@ ghost use Rattle.edge_store.specs.Calls.{Called, KeepsPoint, Reads};
 ghost use Rattle.edge_store.specs.Damages.{HasWrongSlot};
 ghost use Rattle.edge_store.specs.State.{Told, IsLive, IsNumber, HasInode};
 ghost use Rattle.edge_tree.specs.Answers.{TellsWhatIs, NeverTangled};
+ghost use Rattle.edge_dir.specs.Bounds.{IsBelow, IsSearchWithin, IsSaidWithin};
 ghost use Rattle.edge_dir.specs.Directory.{IsDirectoryNode, NeverOnDirectory, IsBelowEnd, AreBlocksOf, LacksBlock, ReadsPart, SeeksIn, IsLastIn, IsEntryOfBlock};
 
 use edge_base::{Damage, DamageKind, Form};
@@ -149,6 +150,7 @@ pub(crate) fn seek_in_block<S: Store>(
     ensures damage { TellsWhatIs (S.state s.old) (S.state s.new) result }
     ensures untangled { NeverTangled (S.state s.old) result }
     ensures undamaged { NeverOnDirectory (S.state s.old) d result }
+    ensures within { IfOk result (IsSearchWithin (S.state s.old).origin.request) }
     ensures seeks { IfOk result (SeeksIn (S.state s.old) d i name.now) }
 {
     let block = read_part(s, d, i, 0, room)?;
@@ -183,6 +185,7 @@ pub(crate) fn last_in_block<S: Store>(
     ensures damage { TellsWhatIs (S.state s.old) (S.state s.new) result }
     ensures untangled { NeverTangled (S.state s.old) result }
     ensures undamaged { NeverOnDirectory (S.state s.old) d result }
+    ensures within { IfOk result (IsBelow bound) }
     ensures last { IfOk result (IsLastIn (S.state s.old) d i bound) }
 {
     let block = read_part(s, d, i, 0, room)?;
@@ -220,6 +223,7 @@ pub(crate) fn entry_in_block<S: Store>(
     ensures damage { TellsWhatIs (S.state s.old) (S.state s.new) result }
     ensures untangled { NeverTangled (S.state s.old) result }
     ensures undamaged { NeverOnDirectory (S.state s.old) d result }
+    ensures within { IfOk result (IsSaidWithin (S.state s.old).origin.request name.new) }
     ensures entry { IfOk result (IsEntryOfBlock (S.state s.old) d i k name.new) }
 {
     let g = s.geometry();

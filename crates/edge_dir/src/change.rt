@@ -1,12 +1,13 @@
-ghost use Rattle.std.specs.Prelude.{◌≡◌, ◌<◌, ◌≤◌, ◌+◌, ◌*◌, ◌/◌, length, OnOk, Some, None};
+ghost use Rattle.std.specs.Prelude.{◌≡◌, ◌<◌, ◌≤◌, ◌+◌, ◌*◌, ◌/◌, length, OnOk, Some};
+ghost use Rattle.byteorder.specs.Endian.{little_bytes};
 ghost use Rattle.edge_base.specs.layout.Places.{max_blocks_of, max_size_of};
-ghost use Rattle.edge_base.specs.tree.Slots.{slots_in_block};
+ghost use Rattle.edge_base.specs.tree.Slots.{slot_bytes, slots_in_block};
 ghost use Rattle.edge_store.specs.Calls.{Called, KeepsPoint, KeepsPlacesBut};
 ghost use Rattle.edge_store.specs.State.{IsLive, IsNumber, HasInode};
 ghost use Rattle.edge_slots.specs.Slot.{entry_of};
 ghost use Rattle.edge_tree.specs.Answers.{TellsWhatIs, IsReadable};
-ghost use Rattle.edge_file.specs.Writing.{KeepsInodesBut};
-ghost use Rattle.edge_dir.specs.Written.{place_of_slot, NeverWithRoom, WritesSlot, PlacesEntry, ReplacesNumber};
+ghost use Rattle.edge_file.specs.Writing.{KeepsInodesBut, WritesBytes};
+ghost use Rattle.edge_dir.specs.Written.{place_of_slot, NeverWithRoom, GrowsToBlock, WritesSlot, PlacesEntry, ReplacesNumber};
 
 use crate::block::slot_number;
 use byteorder::{ByteOrder, LittleEndian};
@@ -60,6 +61,9 @@ fn write_slot<S: Store>(s: &mut S, d: u32, slot: u64, bytes: &[u8]) -> Result<()
     ensures undamaged { NeverWithRoom (S.state s.old) d slot (length bytes.now) result }
     ensures inodes { OnOk result (KeepsInodesBut (S.state s.old) (S.state s.new) d) }
     ensures readable { OnOk result (IsReadable (S.state s.new) d) }
+    ensures size { OnOk result (GrowsToBlock (S.state s.old) (S.state s.new) d slot) }
+    ensures bytes { OnOk result (WritesBytes (S.state s.old) (S.state s.new) d
+        (place_of_slot (S.state s.old).origin.request slot) bytes.now) }
     ensures written { OnOk result
         (WritesSlot (S.state s.old) (S.state s.new) d slot bytes.now) }
 {
@@ -96,6 +100,10 @@ fn place_by<S: Store>(
         (4 + (S.state s.old).origin.request.name_max) result }
     ensures inodes { OnOk result (KeepsInodesBut (S.state s.old) (S.state s.new) d) }
     ensures readable { OnOk result (IsReadable (S.state s.new) d) }
+    ensures size { OnOk result (GrowsToBlock (S.state s.old) (S.state s.new) d slot) }
+    ensures bytes { OnOk result (WritesBytes (S.state s.old) (S.state s.new) d
+        (place_of_slot (S.state s.old).origin.request slot)
+        (slot_bytes (S.state s.old).origin.request (Some (entry_of name.now number)))) }
     ensures placed { OnOk result
         (PlacesEntry (S.state s.old) (S.state s.new) d slot (entry_of name.now number)) }
 {
@@ -126,6 +134,10 @@ pub fn place<S: Store>(
         (4 + (S.state s.old).origin.request.name_max) result }
     ensures inodes { OnOk result (KeepsInodesBut (S.state s.old) (S.state s.new) d) }
     ensures readable { OnOk result (IsReadable (S.state s.new) d) }
+    ensures size { OnOk result (GrowsToBlock (S.state s.old) (S.state s.new) d slot) }
+    ensures bytes { OnOk result (WritesBytes (S.state s.old) (S.state s.new) d
+        (place_of_slot (S.state s.old).origin.request slot)
+        (slot_bytes (S.state s.old).origin.request (Some (entry_of name.now number)))) }
     ensures placed { OnOk result
         (PlacesEntry (S.state s.old) (S.state s.new) d slot (entry_of name.now number)) }
 {
@@ -149,6 +161,9 @@ pub fn replace<S: Store>(s: &mut S, d: u32, slot: u64, number: u32) -> Result<()
     ensures undamaged { NeverWithRoom (S.state s.old) d slot 4 result }
     ensures inodes { OnOk result (KeepsInodesBut (S.state s.old) (S.state s.new) d) }
     ensures readable { OnOk result (IsReadable (S.state s.new) d) }
+    ensures size { OnOk result (GrowsToBlock (S.state s.old) (S.state s.new) d slot) }
+    ensures bytes { OnOk result (WritesBytes (S.state s.old) (S.state s.new) d
+        (place_of_slot (S.state s.old).origin.request slot) (little_bytes 4 number)) }
     ensures replaced { OnOk result
         (ReplacesNumber (S.state s.old) (S.state s.new) d slot number) }
 {

@@ -1,8 +1,9 @@
-ghost use Rattle.std.specs.Prelude.{◌≡◌, ◌==◌, IfOk, OnOk, length};
+ghost use Rattle.std.specs.Prelude.{◌≡◌, ◌≤◌, ◌==◌, IfOk, OnOk, length};
 ghost use Rattle.edge_base.specs.outside.Below.{SameBelow};
 ghost use Rattle.edge_store.specs.Calls.{Called, KeepsPoint, Reads};
 ghost use Rattle.edge_store.specs.State.{IsLive, IsNumber, HasInode};
 ghost use Rattle.edge_tree.specs.Answers.{TellsWhatIs, NeverTangled};
+ghost use Rattle.edge_dir.specs.Bounds.{IsSaidWithinAt, max_slots_of};
 ghost use Rattle.edge_dir.specs.Directory.{IsDirectoryNode, NeverOnDirectory, OnSlots, IsEntryIn};
 ghost use Rattle.edge_dir.specs.Looked.{CountsSlots, SeesNoBlock, SeesEntry};
 
@@ -25,6 +26,7 @@ pub fn slots<S: Store>(s: &mut S, d: u32) -> Result<u64, StoreFault>
     ensures damage { TellsWhatIs (S.state s.old) (S.state s.new) result }
     ensures untangled { NeverTangled (S.state s.old) result }
     ensures undamaged { NeverOnDirectory (S.state s.old) d result }
+    ensures most { IfOk result (λ count. count ≤ max_slots_of (S.state s.old).origin.request) }
     ensures seen { IfOk result (CountsSlots (S.state s.old) d) }
     ensures count { IfOk result (λ count.
         OnSlots (S.state s.old) d (λ slots. count ≡ length slots)) }
@@ -91,6 +93,8 @@ pub fn entry_at<S: Store>(
     ensures damage { TellsWhatIs (S.state s.old) (S.state s.new) result }
     ensures untangled { NeverTangled (S.state s.old) result }
     ensures undamaged { NeverOnDirectory (S.state s.old) d result }
+    ensures within { IfOk result
+        (IsSaidWithinAt (S.state s.old).origin.request slot name.new) }
     ensures seen { IfOk result (SeesEntry (S.state s.old) d slot name.new) }
     ensures entry { IfOk result (λ entry.
         OnSlots (S.state s.old) d (λ slots. IsEntryIn slots slot name.new entry)) }

@@ -1,9 +1,10 @@
-ghost use Rattle.std.specs.Prelude.{◌≡◌, ◌*◌, IfOk, OnOk};
+ghost use Rattle.std.specs.Prelude.{◌≡◌, ◌≤◌, ◌*◌, IfOk, OnOk};
 ghost use Rattle.edge_base.specs.commands.Descriptors.{first_empty};
 ghost use Rattle.edge_base.specs.outside.Below.{SameBelow};
 ghost use Rattle.edge_store.specs.Calls.{Called, KeepsPoint, Reads};
 ghost use Rattle.edge_store.specs.State.{IsLive, IsNumber, HasInode};
 ghost use Rattle.edge_tree.specs.Answers.{TellsWhatIs, NeverTangled};
+ghost use Rattle.edge_dir.specs.Bounds.{IsFoundWithin, IsPlaceWithin, max_slots_of};
 ghost use Rattle.edge_dir.specs.Directory.{IsDirectoryNode, NeverOnDirectory, OnSlots, IsFoundIn, IsPlaceIn, earlier, free_in};
 ghost use Rattle.edge_dir.specs.Looked.{SeesPlace, SeesName, SeesFree};
 
@@ -43,6 +44,7 @@ pub fn look_up<S: Store>(s: &mut S, d: u32, name: &[u8]) -> Result<Place, StoreF
     ensures damage { TellsWhatIs (S.state s.old) (S.state s.new) result }
     ensures untangled { NeverTangled (S.state s.old) result }
     ensures undamaged { NeverOnDirectory (S.state s.old) d result }
+    ensures within { IfOk result (IsPlaceWithin (S.state s.old).origin.request) }
     ensures seen { IfOk result (SeesPlace (S.state s.old) d name.now) }
     ensures place { IfOk result (λ place.
         OnSlots (S.state s.old) d (λ slots. IsPlaceIn slots name.now place)) }
@@ -96,6 +98,7 @@ pub fn find<S: Store>(s: &mut S, d: u32, name: &[u8]) -> Result<Option<Found>, S
     ensures damage { TellsWhatIs (S.state s.old) (S.state s.new) result }
     ensures untangled { NeverTangled (S.state s.old) result }
     ensures undamaged { NeverOnDirectory (S.state s.old) d result }
+    ensures within { IfOk result (IsFoundWithin (S.state s.old).origin.request) }
     ensures seen { IfOk result (SeesName (S.state s.old) d name.now) }
     ensures found { IfOk result (λ found.
         OnSlots (S.state s.old) d (λ slots. IsFoundIn slots name.now found)) }
@@ -123,6 +126,7 @@ pub fn free_slot<S: Store>(s: &mut S, d: u32) -> Result<u64, StoreFault>
     ensures damage { TellsWhatIs (S.state s.old) (S.state s.new) result }
     ensures untangled { NeverTangled (S.state s.old) result }
     ensures undamaged { NeverOnDirectory (S.state s.old) d result }
+    ensures most { IfOk result (λ slot. slot ≤ max_slots_of (S.state s.old).origin.request) }
     ensures seen { IfOk result (SeesFree (S.state s.old) d) }
     ensures slot { IfOk result (λ slot.
         OnSlots (S.state s.old) d (λ slots. slot ≡ first_empty slots)) }

@@ -1,22 +1,24 @@
-use Rattle.std.proofs.Common.{◌≡◌, ◌∙◌, ℕ, ◌<◌, ◌+◌, ◌*◌, List, take, sym, ap, subst, arith}
+use Rattle.std.proofs.Common.{◌≡◌, ◌∙◌, ℕ, ◌<◌, ◌+◌, ◌*◌, List, length, take, sym, ap, subst, arith}
 use Rattle.std.specs.Prelude.{Err}
 use Rattle.std.proofs.lemmas.Result.{err_from_is_err_and}
 use Rattle.edge_base.specs.declared.form.Form.TheVariants.{Plain}
 use Rattle.edge_base.specs.declared.geometry.Request.{Request}
 use Rattle.edge_base.specs.layout.Places.{IsWithinLimits}
 use Rattle.edge_base.specs.outside.Below.{Origin}
+use Rattle.edge_base.specs.tree.NodeRules.{IsEntry}
 use Rattle.edge_base.specs.tree.Slots.{slot_blocks}
 use Rattle.edge_store.specs.State.{Told}
 use Rattle.edge_store.specs.View.{content_at}
 use Rattle.edge_moves.proofs.SlotLaws.{some_pointers_fit}
 use Rattle.edge_slots.specs.Block.{HasWrong}
-use Rattle.edge_slots.specs.Slot.{HasEntry, IsEmpty, IsSlot, IsWrong}
+use Rattle.edge_slots.specs.Slot.{HasEntry, IsEmpty, IsSlot, IsWrong, entry_of}
 use Rattle.edge_slots.proofs.DirectoryLaws.{name_short}
 use Rattle.edge_file.proofs.AnswerLaws.{same_fault}
 use Rattle.edge_file.proofs.StepLaws.{some_bytes}
 use Rattle.edge_dir.proofs.EndLaws.{block_most, slot_within}
 use Rattle.edge_dir.proofs.SlotLaws.{none_wrong}
 use Rattle.edge_dir.proofs.ViewLaws.{blocks_are, slot_of_part, slots_are, wrong_of}
+use Rattle.edge_dir.proofs.BoundLaws.{some_name}
 use Rattle.edge_dir.proofs.block.entry_in_block.Goals as goal
 
 pub overflow_mul-at : goal.overflow_mul-at
@@ -100,9 +102,12 @@ returns-in-Ok-Some-clause-entry g c told =
     sym c.put_first-len.ensures.bytes ∙ ap (λ (n : ℕ). take n c.put_first-len.new.list) (sym c.put_first-len.ensures.len) in (
       part.0,
       ap (content_at old.working Plain) part.1.block ∙ part.1.content,
-      subst (λ (l : List ℕ). HasEntry r l (take c.put_first-len.result c.put_first-len.new.list) c.in-Ok-Some.entry.number) here
-          (subst (λ (x : Request). HasEntry x c.read_part.new.out (take c.put_first-len.result c.put_first-len.new.list) c.in-Ok-Some.entry.number) c.geometry-g.ensures
-          (subst (λ (l : List ℕ). HasEntry c.geometry-g.result c.read_part.new.out l c.in-Ok-Some.entry.number) put has)),
+      (
+        subst (λ (l : List ℕ). HasEntry r l (take c.put_first-len.result c.put_first-len.new.list) c.in-Ok-Some.entry.number) here
+            (subst (λ (x : Request). HasEntry x c.read_part.new.out (take c.put_first-len.result c.put_first-len.new.list) c.in-Ok-Some.entry.number) c.geometry-g.ensures
+            (subst (λ (l : List ℕ). HasEntry c.geometry-g.result c.read_part.new.out l c.in-Ok-Some.entry.number) put has)),
+        ap length (sym put) ∙ sym c.put_first-len.ensures.len,
+      ),
     )
 
 pub returns-in-Ok-None-clause-entry : goal.returns-in-Ok-None-clause-entry
@@ -117,3 +122,20 @@ returns-in-Ok-None-clause-entry g c told =
       ap (content_at old.working Plain) part.1.block ∙ part.1.content,
       subst (IsEmpty r) here (subst (λ (x : Request). IsEmpty x c.read_part.new.out) c.geometry-g.ensures empty),
     )
+
+pub returns-in-Ok-Some-clause-within : goal.returns-in-Ok-Some-clause-within
+returns-in-Ok-Some-clause-within g c =
+    let r = (g.S.Store.state c.args.s.now).origin.request in
+    let name = c.in-Ok-Some.entry.name.now in
+    let has : HasEntry c.geometry-g.result c.read_part.new.out name c.in-Ok-Some.entry.number = subst (IsSlot c.geometry-g.result c.read_part.new.out) c.in-Ok-Some.field-0-is c.in-Ok-Some.ensures.slot in
+    let put : name ≡ take c.put_first-len.result c.put_first-len.new.list =
+    sym c.put_first-len.ensures.bytes ∙ ap (λ (n : ℕ). take n c.put_first-len.new.list) (sym c.put_first-len.ensures.len) in
+    let least = some_name c.geometry-g.result name has.allowed.name in
+    let short = name_short c.geometry-g.result name has.allowed.name in
+    let most = ap (λ (x : Request). x.name_max) c.geometry-g.ensures in
+    record {
+      allowed = subst (λ (x : Request). IsEntry x (entry_of (take c.put_first-len.result c.put_first-len.new.list) c.in-Ok-Some.entry.number)) c.geometry-g.ensures
+          (subst (λ (l : List ℕ). IsEntry c.geometry-g.result (entry_of l c.in-Ok-Some.entry.number)) put has.allowed);
+      least = omega (arith, least, c.put_first-len.ensures.len);
+      most = omega (arith, short, most, c.put_first-len.ensures.len);
+    }

@@ -13,6 +13,7 @@ use Rattle.edge_file.proofs.AnswerLaws.{same_fault}
 use Rattle.edge_file.proofs.StepLaws.{some_bytes}
 use Rattle.edge_dir.proofs.SlotLaws.{none_wrong}
 use Rattle.edge_dir.proofs.ViewLaws.{blocks_are, slots_are, whole_part, wrong_of}
+use Rattle.edge_dir.proofs.BoundLaws.{last_below}
 use Rattle.edge_dir.proofs.block.last_in_block.Goals as goal
 
 pub wrong_slot-requires-clause-wrong : goal.wrong_slot-requires-clause-wrong
@@ -48,3 +49,6 @@ pub returns-in_err-block-clause-undamaged : goal.returns-in_err-block-clause-und
 returns-in_err-block-clause-undamaged g c told slots parent node d e =
     let p = err_from_is_err_and c.from_residual.result c.from_residual.ensures.1 in
     c.in_err-block.ensures.undamaged told slots parent node d (ap Err (sym p.2) ∙ same_fault _ _ (sym p.1 ∙ e))
+
+pub returns-in-Ok-clause-within : goal.returns-in-Ok-clause-within
+returns-in-Ok-clause-within g c = last_below c.geometry-g.result c.read_part.new.out c.args.bound c.in-Ok.last c.in-Ok.ensures.last

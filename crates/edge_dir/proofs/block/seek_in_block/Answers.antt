@@ -13,6 +13,8 @@ use Rattle.edge_file.proofs.AnswerLaws.{same_fault}
 use Rattle.edge_file.proofs.StepLaws.{some_bytes}
 use Rattle.edge_dir.proofs.SlotLaws.{none_wrong}
 use Rattle.edge_dir.proofs.ViewLaws.{blocks_are, slots_are, whole_part, wrong_of}
+use Rattle.edge_dir.specs.Bounds.{IsSearchWithin}
+use Rattle.edge_dir.proofs.BoundLaws.{seek_within}
 use Rattle.edge_dir.proofs.block.seek_in_block.Goals as goal
 
 pub wrong_slot-requires-clause-wrong : goal.wrong_slot-requires-clause-wrong
@@ -48,3 +50,8 @@ pub returns-in_err-block-clause-undamaged : goal.returns-in_err-block-clause-und
 returns-in_err-block-clause-undamaged g c told slots parent node d e =
     let p = err_from_is_err_and c.from_residual.result c.from_residual.ensures.1 in
     c.in_err-block.ensures.undamaged told slots parent node d (ap Err (sym p.2) ∙ same_fault _ _ (sym p.1 ∙ e))
+
+pub returns-in-Ok-clause-within : goal.returns-in-Ok-clause-within
+returns-in-Ok-clause-within g c =
+    let same = c.geometry-g.ensures ∙ ap (λ (o : Origin). o.request) c.in_ok-block.ensures.called.origin in
+    subst (λ (x : Request). IsSearchWithin x c.in-Ok.found) same (seek_within c.geometry-g.result c.read_part.new.out c.args.name.now c.in-Ok.found c.in-Ok.ensures.seeks)

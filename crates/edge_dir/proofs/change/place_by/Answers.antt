@@ -1,9 +1,10 @@
-use Rattle.std.proofs.Common.{◌≡◌, ◌∙◌, ℕ, ◌+◌, length, Some, sym, subst}
+use Rattle.std.proofs.Common.{◌≡◌, ◌∙◌, ℕ, ◌+◌, List, length, Some, sym, subst}
+use Rattle.std.specs.Prelude.{OnOk}
 use Rattle.edge_base.specs.layout.Places.{IsWithinLimits}
 use Rattle.edge_base.specs.tree.Slots.{slots_in_block}
 use Rattle.edge_cut.proofs.GoLaws.{on_ok_map}
 use Rattle.edge_slots.specs.Slot.{entry_of}
-use Rattle.edge_file.specs.Writing.{RoomForBytes}
+use Rattle.edge_file.specs.Writing.{RoomForBytes, WritesBytes}
 use Rattle.edge_dir.specs.Directory.{slot_of}
 use Rattle.edge_dir.specs.Written.{place_of_slot}
 use Rattle.edge_dir.proofs.EndLaws.{some_slots}
@@ -30,3 +31,10 @@ returns-clause-undamaged g c told slots parent node room =
     let r = old.origin.request in
     let long : length c.spell_slot.new.bytes ≡ 4 + r.name_max = c.spell_slot.auto.bytes ∙ c.requires.width in
     c.write_slot.ensures.undamaged told slots parent node (subst (λ (n : ℕ). RoomForBytes old c.args.d (place_of_slot r c.args.slot) n) (sym long) room)
+
+pub returns-clause-bytes : goal.returns-clause-bytes
+returns-clause-bytes g c =
+    let old = g.S.Store.state c.args.s.now in
+    let r = old.origin.request in
+    subst (λ (l : List ℕ). OnOk c.write_slot.result (WritesBytes old (g.S.Store.state c.write_slot.new.s) c.args.d (place_of_slot r c.args.slot) l))
+    (c.spell_slot.ensures r c.requires.width) c.write_slot.ensures.bytes

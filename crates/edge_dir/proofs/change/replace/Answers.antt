@@ -1,4 +1,5 @@
 use Rattle.std.proofs.Common.{◌≡◌, ◌∙◌, ℕ, ◌≤◌, List, length, Some, None, sym, ap, subst, arith}
+use Rattle.std.specs.Prelude.{OnOk}
 use Rattle.byteorder.specs.Endian.{little_bytes}
 use Rattle.edge_base.specs.layout.Places.{IsWithinLimits}
 use Rattle.edge_base.specs.tree.Slots.{slots_in_block}
@@ -7,7 +8,7 @@ use Rattle.edge_slots.specs.Slot.{entry_of}
 use Rattle.edge_file.proofs.RangeLaws.{append_none}
 use Rattle.edge_dir.specs.Directory.{slot_of}
 use Rattle.byteorder.specs.Numbers.{length-bytes_low_first}
-use Rattle.edge_file.specs.Writing.{RoomForBytes}
+use Rattle.edge_file.specs.Writing.{RoomForBytes, WritesBytes}
 use Rattle.edge_dir.specs.Written.{BecomesSlot, place_of_slot}
 use Rattle.edge_dir.proofs.EndLaws.{some_slots}
 use Rattle.edge_dir.proofs.SetLaws.{becomes_number, blocks_filled, length_filled, pieces_near}
@@ -37,3 +38,9 @@ returns-clause-undamaged g c told slots parent node room =
     let is : c.write_u32.new.buf ≡ little_bytes 4 c.args.number = c.write_u32.ensures ∙ append_none (little_bytes 4 c.args.number) in
     let four : length c.write_u32.new.buf ≡ 4 = ap length is ∙ length-bytes_low_first 0 4 c.args.number in
     c.write_slot.ensures.undamaged told slots parent node (subst (λ (n : ℕ). RoomForBytes old c.args.d (place_of_slot old.origin.request c.args.slot) n) (sym four) room)
+
+pub returns-clause-bytes : goal.returns-clause-bytes
+returns-clause-bytes g c =
+    let old = g.S.Store.state c.args.s.now in
+    let is : c.write_u32.new.buf ≡ little_bytes 4 c.args.number = c.write_u32.ensures ∙ append_none (little_bytes 4 c.args.number) in
+    subst (λ (l : List ℕ). OnOk c.write_slot.result (WritesBytes old (g.S.Store.state c.write_slot.new.s) c.args.d (place_of_slot old.origin.request c.args.slot) l)) is c.write_slot.ensures.bytes

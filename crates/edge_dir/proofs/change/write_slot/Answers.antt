@@ -16,7 +16,7 @@ use Rattle.edge_file.proofs.HeadLaws.{written_head}
 use Rattle.edge_dir.specs.Written.{place_of_slot}
 use Rattle.edge_dir.proofs.ViewLaws.{sized}
 use Rattle.edge_dir.proofs.EndLaws.{some_bytes}
-use Rattle.edge_dir.proofs.WriteLaws.{size_after, sized_between, slot_written}
+use Rattle.edge_dir.proofs.WriteLaws.{grown_twice, size_after, sized_between, slot_written}
 use Rattle.edge_dir.proofs.change.write_slot.Goals as goal
 
 pub write_at-requires-clause-end : goal.write_at-requires-clause-end
@@ -97,3 +97,30 @@ returns-clause-written g c told slots after parent slot node rules set becomes n
     ∙ (λ t. Some (record node.head { size = size t })) in
     slot_written r old.committed old.working new.working c.args.d c.args.slot slots after parent slot c.args.bytes.now (g.met.S.Store.is_geometry c.args.s.now) limits view view_new node rules
     c.requires.some c.requires.short c.requires.block becomes set near count written (second.readable told_new) head
+
+pub returns-clause-bytes : goal.returns-clause-bytes
+returns-clause-bytes g c told indices places once =
+    let old = g.S.Store.state c.args.s.now in
+    let mid = g.S.Store.state c.write_at.new.s in
+    let new = g.S.Store.state c.grow.new.s in
+    let r = old.origin.request in
+    let first = c.in_ok-write_at.ensures in
+    let told_mid : Told mid = ap (λ (o : Origin). o.tells) first.called.origin ∙ told in
+    let at : c.slot_place-at.result ≡ place_of_slot r c.args.slot = c.slot_place-at.ensures.place ∙ ap (λ (x : Request). place_of_slot x c.args.slot) c.geometry-g.ensures in
+    subst (λ (x : ℕ). IsWritten r old.committed old.working new.working c.args.d x c.args.bytes.now indices) at
+    (written_head r old.committed old.working mid.working new.working c.args.d (c.in_ok-grow.ensures.blocks told_mid) c.slot_place-at.result c.args.bytes.now indices
+    (first.written told indices places once))
+
+pub returns-clause-size : goal.returns-clause-size
+returns-clause-size g c told =
+    let old = g.S.Store.state c.args.s.now in
+    let mid = g.S.Store.state c.write_at.new.s in
+    let r = old.origin.request in
+    let first = c.in_ok-write_at.ensures in
+    let told_mid : Told mid = ap (λ (o : Origin). o.tells) first.called.origin ∙ told in
+    let end = subst (λ (x : Request). c.slot_place-at.result + (4 + x.name_max) ≤ (c.args.slot / slots_in_block x + 1) * x.block_size) c.geometry-g.ensures c.slot_place-at.ensures.end in
+    let is_end : c.block_end-end.result ≡ (c.args.slot / slots_in_block r + 1) * r.block_size =
+    c.block_end-end.ensures.end ∙ ap (λ (x : Request). (c.args.slot / slots_in_block x + 1) * x.block_size) c.geometry-g.ensures in
+    c.in_ok-grow.ensures.grown told_mid ∙ ap (λ o. grown o c.block_end-end.result) (first.grown told)
+    ∙ grown_twice (head_of_inode (old.working.inodes c.args.d)) (c.slot_place-at.result + length c.args.bytes.now) c.block_end-end.result (omega (arith, end, is_end, c.requires.short))
+    ∙ ap (grown (head_of_inode (old.working.inodes c.args.d))) is_end

@@ -11,6 +11,9 @@ use Rattle.edge_dir.specs.Looked.{blocks_below_end}
 use Rattle.edge_dir.proofs.EndLaws.{some_slots}
 use Rattle.edge_dir.proofs.EntryLaws.{entry_in_slots, sees_entry}
 use Rattle.edge_dir.proofs.StoreLaws.{below_end, count_seen, entry_too, node_on, told_on}
+use Rattle.edge_dir.specs.Bounds.{IsSaidWithin}
+use Rattle.edge_dir.proofs.BoundLaws.{said_within_at}
+use Rattle.edge_base.specs.layout.Places.{max_blocks_of}
 use Rattle.edge_dir.proofs.entries.entry_at.Goals as goal
 
 pub entry_in_block-requires-clause-end : goal.entry_in_block-requires-clause-end
@@ -81,3 +84,13 @@ returns-then-slot-in_block-clause-entry g c =
     let old = g.S.Store.state c.args.s.now in
     let limits : IsWithinLimits old.origin.request = subst IsWithinLimits c.geometry-g.ensures c.request-within_limits.ensures.limits in
     entry_in_slots old c.args.d c.args.slot c.args.name.now None limits (returns-then-slot-in_block-clause-seen g c)
+
+pub returns-clause-within : goal.returns-clause-within
+returns-clause-within g c =
+    let r = (g.S.Store.state c.args.s.now).origin.request in
+    let first = c.in_ok-blocks.ensures in
+    let width : c.from-in_block.result ≡ slots_in_block r = c.from-in_block.ensures ∙ c.slots_in_block.ensures.count ∙ ap slots_in_block c.geometry-g.ensures in
+    let low : c.args.slot / slots_in_block r < max_blocks_of r =
+    subst (λ (n : ℕ). c.args.slot / n < max_blocks_of r) width (let most = first.most in omega (arith, most)) in
+    said_within_at r c.args.slot c.entry_in_block.new.name c.in_ok-entry.entry low
+    (subst (λ (o : Origin). IsSaidWithin o.request c.entry_in_block.new.name c.in_ok-entry.entry) first.called.origin c.in_ok-entry.ensures.within)

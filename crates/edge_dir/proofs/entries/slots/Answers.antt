@@ -1,4 +1,4 @@
-use Rattle.std.proofs.Common.{◌≡◌, ◌∙◌, ℕ, ◌+◌, ◌-◌, ◌*◌, Some, None, sym, ap, subst, arith}
+use Rattle.std.proofs.Common.{◌≡◌, ◌∙◌, ℕ, ◌+◌, ◌-◌, ◌*◌, ◌<◌, Some, None, sym, ap, subst, arith}
 use Rattle.std.specs.Prelude.{Err}
 use Rattle.std.proofs.lemmas.Result.{err_from_is_err_and}
 use Rattle.edge_file.proofs.AnswerLaws.{same_fault}
@@ -10,6 +10,9 @@ use Rattle.edge_dir.specs.Looked.{AreSlotsUpTo}
 use Rattle.edge_dir.proofs.DirectoryLaws.{slots_are_counted}
 use Rattle.edge_dir.proofs.SeenLaws.{counted_none, counted_some, counted_zero}
 use Rattle.edge_dir.proofs.StoreLaws.{below_end, count_seen, last_too, node_on, told_on}
+use Rattle.edge_dir.specs.Bounds.{IsBelow}
+use Rattle.edge_dir.proofs.BoundLaws.{end_within, slot_within_all}
+use Rattle.edge_base.specs.layout.Places.{max_blocks_of}
 use Rattle.edge_dir.proofs.entries.slots.Goals as goal
 
 pub last_in_block-requires-clause-end : goal.last_in_block-requires-clause-end
@@ -88,3 +91,19 @@ returns-in_err-found-clause-undamaged g c told slots parent node d e =
     let p = err_from_is_err_and c.from_residual-in_err-found.result c.from_residual-in_err-found.ensures.1 in
     c.in_err-found.ensures.undamaged (told_on old mid c.args.d c.in_ok-blocks.ensures.called.origin c.in_ok-blocks.ensures.reads.working told) slots parent
     (node_on old mid c.args.d c.in_ok-blocks.ensures.called.origin c.in_ok-blocks.ensures.reads.working slots parent node) d (ap Err (sym p.2) ∙ same_fault _ _ (sym p.1 ∙ e))
+
+pub returns-in-Some-clause-most : goal.returns-in-Some-clause-most
+returns-in-Some-clause-most g c =
+    let r = (g.S.Store.state c.args.s.now).origin.request in
+    let q = c.in_ok-blocks.blocks - 1 in
+    let width : c.slots_in_block-in_block.result ≡ slots_in_block r = c.slots_in_block-in_block.ensures.count ∙ ap slots_in_block c.geometry-g.ensures in
+    let low : q < max_blocks_of r = (let most = c.in_ok-blocks.ensures.most in omega (arith, most, c.if-blocks-eq0.false)) in
+    let inner = subst (IsBelow c.slots_in_block-in_block.result) c.in-Some.is c.in_ok-found.ensures.within in
+    let all = slot_within_all r q c.slots_in_block-in_block.result c.in-Some.last c.slot_number.result low width (omega (arith, inner, width)) c.slot_number.ensures in
+    omega (arith, all)
+
+pub returns-in-None-clause-most : goal.returns-in-None-clause-most
+returns-in-None-clause-most g c =
+    let r = (g.S.Store.state c.args.s.now).origin.request in
+    let width : c.slots_in_block-in_block.result ≡ slots_in_block r = c.slots_in_block-in_block.ensures.count ∙ ap slots_in_block c.geometry-g.ensures in
+    end_within r (c.in_ok-blocks.blocks - 1) c.slots_in_block-in_block.result c.slot_number-in-None.result (let most = c.in_ok-blocks.ensures.most in omega (arith, most)) width c.slot_number-in-None.ensures

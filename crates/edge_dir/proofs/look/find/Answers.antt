@@ -4,6 +4,7 @@ use Rattle.std.proofs.lemmas.Result.{err_from_is_err_and}
 use Rattle.edge_file.proofs.AnswerLaws.{same_fault}
 use Rattle.edge_dir.specs.Directory.{IsPlaceIn, OnSlots}
 use Rattle.edge_dir.specs.Looked.{SeesPlace}
+use Rattle.edge_dir.specs.Bounds.{IsPlaceWithin}
 use Rattle.edge_dir.proofs.look.find.Goals as goal
 
 pub returns-in_err-place-clause-undamaged : goal.returns-in_err-place-clause-undamaged
@@ -23,3 +24,6 @@ returns-in-Free-clause-seen g c told = (subst (SeesPlace (g.S.Store.state c.args
 pub returns-in-Free-clause-found : goal.returns-in-Free-clause-found
 returns-in-Free-clause-found g c told slots parent node =
     (subst (λ place. OnSlots (g.S.Store.state c.args.s.now) c.args.d (λ slots. IsPlaceIn slots c.args.name.now place)) c.in-Free.is c.in_ok-place.ensures.place told slots parent node).0
+
+pub returns-in-Taken-clause-within : goal.returns-in-Taken-clause-within
+returns-in-Taken-clause-within g c = subst (IsPlaceWithin (g.S.Store.state c.args.s.now).origin.request) c.in-Taken.is c.in_ok-place.ensures.within

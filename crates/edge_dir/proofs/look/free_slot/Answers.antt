@@ -1,4 +1,4 @@
-use Rattle.std.proofs.Common.{◌≡◌, ◌∙◌, ℕ, ◌+◌, ◌*◌, [], sym, ap, subst, arith}
+use Rattle.std.proofs.Common.{◌≡◌, ◌∙◌, ℕ, ◌+◌, ◌*◌, ◌<◌, [], sym, ap, subst, arith}
 use Rattle.std.specs.Prelude.{Err}
 use Rattle.std.proofs.lemmas.Result.{err_from_is_err_and}
 use Rattle.edge_file.proofs.AnswerLaws.{same_fault}
@@ -10,6 +10,10 @@ use Rattle.edge_dir.specs.Looked.{AreFilledBefore, IsFirstFreeAt, blocks_below_e
 use Rattle.edge_dir.proofs.DirectoryLaws.{free_is}
 use Rattle.edge_dir.proofs.SeenLaws.{all_filled, first_free_of, free_at_end}
 use Rattle.edge_dir.proofs.StoreLaws.{count_seen, node_on, seeks_too, told_on}
+use Rattle.edge_dir.specs.Bounds.{IsSearchWithin}
+use Rattle.edge_dir.proofs.BoundLaws.{end_within, free_within, slot_within_all}
+use Rattle.edge_base.specs.layout.Places.{max_blocks_of}
+use Rattle.edge_base.specs.outside.Below.{Origin}
 use Rattle.edge_dir.proofs.look.free_slot.Goals as goal
 
 end_is : (blocks all in_block n end : ℕ) → blocks ≡ all → in_block ≡ n → end ≡ blocks * in_block + 0 → all * n ≡ end
@@ -31,6 +35,7 @@ loop-i-preserved g c =
       reads = record { working = done.reads.working ∙ inv.reads.working; places = done.reads.places ∙ inv.reads.places };
       same_below = λ clean. same_below_twice (inv.same_below clean) (done.below (inv.still_clean clean));
       still_clean = λ clean. done.clean (inv.still_clean clean);
+      within = tt;
       seen = λ told.
           let seeks = seeks_too first now c.args.d inv.goes_on.called.origin inv.reads.working i [] c.in_ok-found.found done.seeks told in
           subst (AreFilledBefore r first.working c.args.d) (sym next) (all_filled r first.working c.args.d i seeks.0 seeks.1 c.in_ok-found.found (inv.seen told) seeks.2 (sym c.free_in.ensures ∙ c.in-None.is));
@@ -84,3 +89,20 @@ returns-in-Some-clause-slot g c told slots parent node =
     let first = g.S.Store.state c.args.s.now in
     let limits : IsWithinLimits first.origin.request = subst IsWithinLimits c.geometry-g.ensures c.request-limits.ensures.limits in
     free_is first.origin.request first.working c.args.d slots parent node limits _ (returns-in-Some-clause-seen g c told)
+
+pub returns-in-Some-clause-most : goal.returns-in-Some-clause-most
+returns-in-Some-clause-most g c =
+    let r = (g.S.Store.state c.args.s.now).origin.request in
+    let i = c.loop-i.i in
+    let width : c.slots_in_block-in_block.result ≡ slots_in_block r = c.slots_in_block-in_block.ensures.count ∙ ap slots_in_block c.geometry-g.ensures in
+    let low : i < max_blocks_of r = (let most = c.in_ok-blocks.ensures.most in omega (arith, most, c.loop-i-test.true)) in
+    let search = subst (λ (o : Origin). IsSearchWithin o.request c.in_ok-found.found) c.loop-i.invariant.goes_on.called.origin c.in_ok-found.ensures.within in
+    let inner = free_within r c.in_ok-found.found c.in-Some.slot search (sym c.free_in.ensures ∙ c.in-Some.is) in
+    let all = slot_within_all r i c.slots_in_block-in_block.result c.in-Some.slot c.slot_number.result low width inner c.slot_number.ensures in
+    omega (arith, all)
+
+pub returns-clause-most : goal.returns-clause-most
+returns-clause-most g c =
+    let r = (g.S.Store.state c.args.s.now).origin.request in
+    let width : c.slots_in_block-in_block.result ≡ slots_in_block r = c.slots_in_block-in_block.ensures.count ∙ ap slots_in_block c.geometry-g.ensures in
+    end_within r c.in_ok-blocks.blocks c.slots_in_block-in_block.result c.slot_number-2.result c.in_ok-blocks.ensures.most width c.slot_number-2.ensures

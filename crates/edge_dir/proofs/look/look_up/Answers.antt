@@ -1,4 +1,4 @@
-use Rattle.std.proofs.Common.{◌≡◌, ◌∙◌, ℕ, ◌+◌, ◌*◌, sym, ap, subst, arith}
+use Rattle.std.proofs.Common.{◌≡◌, ◌∙◌, ℕ, ◌+◌, ◌*◌, ◌<◌, sym, ap, subst, arith}
 use Rattle.std.specs.Prelude.{Err}
 use Rattle.std.proofs.lemmas.Result.{err_from_is_err_and}
 use Rattle.edge_file.proofs.AnswerLaws.{same_fault}
@@ -12,6 +12,10 @@ use Rattle.edge_dir.specs.Looked.{IsFirstNamedAt, IsFirstFreeAt, LacksBefore, bl
 use Rattle.edge_dir.proofs.DirectoryLaws.{free_is, named_is, no_name_is}
 use Rattle.edge_dir.proofs.SeenLaws.{IsFreeSoFar, first_named_here, free_at_end, free_more, free_there, lacks_more}
 use Rattle.edge_dir.proofs.StoreLaws.{count_seen, node_on, seeks_too, told_on}
+use Rattle.edge_dir.specs.Bounds.{IsBelow, IsSearchWithin, max_slots_of}
+use Rattle.edge_dir.proofs.BoundLaws.{earlier_within, end_within, named_within}
+use Rattle.edge_base.specs.layout.Places.{max_blocks_of}
+use Rattle.edge_base.specs.outside.Below.{Origin}
 use Rattle.edge_dir.proofs.look.look_up.Goals as goal
 
 end_is : (blocks all in_block n end : ℕ) → blocks ≡ all → in_block ≡ n → end ≡ blocks * in_block + 0 → all * n ≡ end
@@ -34,6 +38,10 @@ loop-i-preserved g c =
       reads = record { working = done.reads.working ∙ inv.reads.working; places = done.reads.places ∙ inv.reads.places };
       same_below = λ clean. same_below_twice (inv.same_below clean) (done.below (inv.still_clean clean));
       still_clean = λ clean. done.clean (inv.still_clean clean);
+      within =
+          let search = subst (IsSearchWithin r) c.in-Missing.is (subst (λ (o : Origin). IsSearchWithin o.request c.in_ok-found.found) inv.goes_on.called.origin done.within) in
+          subst (IsBelow (max_slots_of r)) (sym c.earlier-free.ensures.slot)
+          (earlier_within r i c.slots_in_block-in_block.result c.loop-i.free c.in-Missing.here (let most = c.in_ok-blocks.ensures.most in omega (arith, most, c.loop-i-test.true)) width inv.within search);
       seen = λ told.
           let so = inv.seen told in
           let seeks = seeks_too first now c.args.d inv.goes_on.called.origin inv.reads.working i c.args.name.now (Missing c.in-Missing.here)
@@ -125,3 +133,25 @@ returns-in_err-found-clause-undamaged g c told slots parent node d e =
     let p = err_from_is_err_and c.from_residual-in_err-found.result c.from_residual-in_err-found.ensures.1 in
     c.in_err-found.ensures.undamaged (told_on old mid c.args.d c.loop-i.invariant.goes_on.called.origin c.loop-i.invariant.reads.working told) slots parent
     (node_on old mid c.args.d c.loop-i.invariant.goes_on.called.origin c.loop-i.invariant.reads.working slots parent node) d (ap Err (sym p.2) ∙ same_fault _ _ (sym p.1 ∙ e))
+
+pub returns-in-Found-clause-within : goal.returns-in-Found-clause-within
+returns-in-Found-clause-within g c =
+    let r = (g.S.Store.state c.args.s.now).origin.request in
+    let i = c.loop-i.i in
+    let width : c.slots_in_block-in_block.result ≡ slots_in_block r = c.slots_in_block-in_block.ensures.count ∙ ap slots_in_block c.geometry-g.ensures in
+    let low : i < max_blocks_of r = (let most = c.in_ok-blocks.ensures.most in omega (arith, most, c.loop-i-test.true)) in
+    let search = subst (IsSearchWithin r) c.in-Found.is
+    (subst (λ (o : Origin). IsSearchWithin o.request c.in_ok-found.found) c.loop-i.invariant.goes_on.called.origin c.in_ok-found.ensures.within) in
+    named_within r i c.slots_in_block-in_block.result c.in-Found.slot c.slot_number-slot.result low width search.0 c.slot_number-slot.ensures c.in-Found.number search.1 search.2
+
+pub returns-in-Some-clause-within : goal.returns-in-Some-clause-within
+returns-in-Some-clause-within g c =
+    let r = (g.S.Store.state c.args.s.now).origin.request in
+    let low = subst (IsBelow (max_slots_of r)) c.in-Some.is c.loop-i.invariant.within in
+    omega (arith, low)
+
+pub returns-in-None-clause-within : goal.returns-in-None-clause-within
+returns-in-None-clause-within g c =
+    let r = (g.S.Store.state c.args.s.now).origin.request in
+    let width : c.slots_in_block-in_block.result ≡ slots_in_block r = c.slots_in_block-in_block.ensures.count ∙ ap slots_in_block c.geometry-g.ensures in
+    end_within r c.in_ok-blocks.blocks c.slots_in_block-in_block.result c.slot_number.result c.in_ok-blocks.ensures.most width c.slot_number.ensures

@@ -1,6 +1,7 @@
 use Rattle.std.proofs.Common.{◌*◌}
 use Rattle.edge_base.specs.outside.Below.{SameBelow}
 use Rattle.edge_base.specs.tree.Slots.{slots_in_block}
+use Rattle.edge_dir.specs.Bounds.{IsBelow, max_slots_of}
 use Rattle.edge_dir.specs.Looked.{LacksBefore}
 use Rattle.edge_dir.proofs.LoopLaws.{LookedSoFar}
 use Rattle.edge_dir.proofs.SeenLaws.{IsFreeSoFar}
@@ -10,5 +11,6 @@ abbrev pub invariant-loop-i : goal.invariant-loop-i
 invariant-loop-i g l = LookedSoFar (g.S.Store.state l.fn.s) (g.S.Store.state l.s)
     (g.S.Store.is_clean l.fn.s → SameBelow (g.S.Store.may_hold l.fn.s) (g.S.Store.may_hold l.s) (g.S.Store.is_sure l.fn.s) (g.S.Store.is_sure l.s))
     (g.S.Store.is_clean l.fn.s → g.S.Store.is_clean l.s)
+    (IsBelow (max_slots_of (g.S.Store.state l.fn.s).origin.request) l.free)
     (LacksBefore (g.S.Store.state l.fn.s).origin.request (g.S.Store.state l.fn.s).working l.d l.fn.name (l.i * slots_in_block (g.S.Store.state l.fn.s).origin.request)
     × IsFreeSoFar (g.S.Store.state l.fn.s).origin.request (g.S.Store.state l.fn.s).working l.d (l.i * slots_in_block (g.S.Store.state l.fn.s).origin.request) l.free)
