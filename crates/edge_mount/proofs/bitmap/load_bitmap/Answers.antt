@@ -1,10 +1,9 @@
 use Rattle.std.proofs.Common.{◌≡◌, ◌≤◌, ◌<◌, ◌^◌, sym, ap, ◌∙◌, refl, subst, arith}
-use Rattle.std.specs.Prelude.{IsTrue}
 use Rattle.edge_alloc.specs.declared.Counts.{Counts}
 use Rattle.edge_base.specs.layout.Bitmap.{used_under}
 use Rattle.edge_cache.specs.Calls.{content_in}
 use Rattle.edge_image.specs.Image.{free_blocks_of}
-use Rattle.edge_imap.specs.Bitmaps.{HasNodes, IsTied}
+use Rattle.edge_imap.specs.Bitmaps.{IsTied}
 use Rattle.edge_imap.proofs.CallLaws.{reads_same}
 use Rattle.edge_mount.proofs.NodeLaws.{free_of_loaded, nodes_are_good, nodes_of_loaded}
 use Rattle.edge_mount.proofs.ReasonLaws.{by_counts, has_counts, late}
