@@ -1,5 +1,5 @@
 #!/usr/bin/env python3
-"""Computes what the tables of crates/edge_rows, crates/edge_part_rows and crates/edge_store_rows have to answer, from
+"""Computes what the tables of crates/edge_rows, crates/edge_part_rows, crates/edge_store_rows and crates/edge_point_rows have to answer, from
 the documents alone, and compares. Lines with a statement that it does not know are counted and left out.
 
 usage: tests/rows.py [CRATE..]"""
@@ -15,6 +15,7 @@ from rows_model import (
 from rows_script import (
     Bad, hex_in, number_in, path_in, reply_of, spelling_of, told_command)
 from rows_store import StoreTable
+from rows_point import PointTable
 
 
 NUMBERS = [
@@ -449,7 +450,8 @@ def permitted(disk, loose):
             return
 
 
-CRATES = ["edge_rows", "edge_part_rows", "edge_store_rows"]
+TABLES = {"edge_store_rows": StoreTable, "edge_point_rows": PointTable}
+CRATES = ["edge_rows", "edge_part_rows", "edge_store_rows", "edge_point_rows"]
 
 
 def main():
@@ -463,7 +465,7 @@ def judge(crate):
     rows, replies = (open(os.path.join(crate, name), encoding="ascii").read().splitlines() for name in ("stdin", "stdout"))
     with tempfile.TemporaryDirectory() as room:
         os.chdir(room)
-        table = StoreTable() if os.path.basename(crate) == "edge_store_rows" else Table(crate)
+        table = TABLES.get(os.path.basename(crate), lambda: Table(crate))()
         judged, left, wrong, at = compare(table, rows, replies)
         os.chdir(crate)
     print(f"{os.path.basename(crate)}: {judged} rows judged, {left} left out, {wrong} wrong")

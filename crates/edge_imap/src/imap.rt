@@ -1,4 +1,5 @@
 ghost use Rattle.std.specs.Prelude.{◌≡◌, ◌≢◌, ◌<◌, ◌+◌, ℕ, List, true, IfOk, IfSome, IsOk, OnOk, OnErr, IsTrue};
+ghost use Rattle.edge_base.specs.layout.Bitmap.{used_under};
 ghost use Rattle.edge_base.specs.layout.Places.{is_inline_of};
 ghost use Rattle.edge_cache.specs.Calls.{content_in};
 ghost use Rattle.edge_imap.specs.Bitmaps.{IsRootBits, IsFit, IsTied, bits_of, first_bit, committed_bit, working_bit, is_free_bit, state_of, working_use, IsNamed, IsNamedFor};
@@ -8,7 +9,7 @@ ghost use Rattle.edge_imap.specs.Search.{Finds, FindsLeast, IsWithin};
 
 use crate::change::Change;
 use crate::fault::{BlockState, ImapFault, LoadFault};
-use crate::inodes::{count_numbers, first_number};
+use crate::inodes::first_number;
 use crate::load::load_roots;
 use crate::room::Room;
 use crate::search::next_bit;
@@ -38,6 +39,13 @@ pub struct Imap {
     // Room for the two blocks of a pair.
     one: Vec<u8>,
     two: Vec<u8>,
+}
+
+/// A bitmap that was loaded, and how many numbers of inodes it leaves free.
+#[derive(Drop)]
+pub struct Loaded {
+    pub imap: Imap,
+    pub numbers: u32,
 }
 
 impl Model for Imap {
@@ -74,24 +82,27 @@ impl Imap {
         ensures reads { OnlyReads D.Disk cache.old cache.new }
     {
         let room = Room::new(alloc, g.request().block_size)?;
-        Imap::load_in(room, g, live_bits, cache)
+        Ok(Imap::load_in(room, g, live_bits, cache)?.imap)
     }
 
-    /// The same in memory that was taken before.
+    /// The same in memory that was taken before, with how many numbers of inodes the lists leave
+    /// free. Each live node is read once.
     pub fn load_in<D: Disk>(
         room: Room,
         g: Geometry,
         live_bits: &[u8],
         cache: &mut Cache<D>,
-    ) -> Result<Imap, LoadFault>
+    ) -> Result<Loaded, LoadFault>
         requires room { room ≡ g.block_size }
         requires bits { IsRootBits g live_bits.now }
         requires fits { IsFit g (D.origin cache.old.disk) }
-        ensures geometry { IfOk result (λ m. m.geometry ≡ g) }
-        ensures committed { IfOk result (λ m. m.committed ≡ live_bits.now) }
-        ensures working { IfOk result (λ m. m.working ≡ live_bits.now) }
+        ensures geometry { IfOk result (λ l. l.imap.geometry ≡ g) }
+        ensures committed { IfOk result (λ l. l.imap.committed ≡ live_bits.now) }
+        ensures working { IfOk result (λ l. l.imap.working ≡ live_bits.now) }
         ensures tied { IsTrue (D.origin cache.old.disk).shows
-            → IfOk result (λ m. IsTied m (content_in D.Disk cache.new)) }
+            → IfOk result (λ l. IsTied l.imap (content_in D.Disk cache.new)) }
+        ensures numbers { IsTrue (D.origin cache.old.disk).shows → IfOk result (λ l. l.numbers
+            ≡ free_inodes_of g (used_under g live_bits.now (content_in D.Disk cache.old))) }
         ensures memory { result ≢ Err LoadFault.Memory }
         ensures cause { TellsLoad D.Disk g live_bits.now cache.old cache.new result }
         ensures reads { OnlyReads D.Disk cache.old cache.new }
@@ -104,14 +115,21 @@ impl Imap {
         } = room;
         committed.copy_from_slice(live_bits);
         working.copy_from_slice(live_bits);
-        let free = load_roots(&g, live_bits, cache, &mut one)?;
-        Ok(Imap {
-            geometry: g,
-            committed,
-            working,
-            counts: Counts { free, almost: 0 },
-            one,
-            two,
+        let tally = load_roots(&g, live_bits, cache, &mut one)?;
+        let counts = Counts {
+            free: tally.blocks,
+            almost: 0,
+        };
+        Ok(Loaded {
+            imap: Imap {
+                geometry: g,
+                committed,
+                working,
+                counts,
+                one,
+                two,
+            },
+            numbers: tally.numbers,
         })
     }
 
@@ -232,22 +250,6 @@ impl Imap {
         ensures reads { OnlyReads D.Disk cache.old cache.new }
     {
         first_number(&self.geometry, &self.working, cache, &mut self.one)
-    }
-
-    /// How many numbers of inodes the working list leaves free. The nodes that have their bits are
-    /// read; so whoever needs the number often keeps it.
-    pub fn count_free_inodes<D: Disk>(&mut self, cache: &mut Cache<D>) -> Result<u32, ImapFault>
-        requires fits { IsFit self.old.geometry (D.origin cache.old.disk) }
-        ensures count { IsTrue (D.origin cache.old.disk).shows → IfOk result (λ n. n
-            ≡ free_inodes_of self.old.geometry
-            (working_use self.old (content_in D.Disk cache.old))) }
-        ensures same { self.new ≡ self.old }
-        ensures cause { TellsWhy D.Disk (IsNamed self.old) cache.old cache.new result }
-        ensures sound { IsTrue (D.origin cache.old.disk).shows
-            → IsTied self.old (content_in D.Disk cache.old) → NeverDamaged result }
-        ensures reads { OnlyReads D.Disk cache.old cache.new }
-    {
-        count_numbers(&self.geometry, &self.working, cache, &mut self.one)
     }
 
     /// How many allocable blocks neither list uses, and how many the list of the last point alone

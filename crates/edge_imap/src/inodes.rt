@@ -1,19 +1,18 @@
 //! Numbers of inodes that the working list leaves free. The bitmap begins with the bits of their
 //! places, two for each number, so a free one is a pair of clear bits.
-ghost use Rattle.std.specs.Prelude.{◌≡◌, ◌<◌, ◌≤◌, ◌+◌, ◌-◌, ◌*◌, true, false, min, length, count_by, IfOk, IfSome, OnOk, IsTrue};
-ghost use Rattle.std.specs.List.{range_with_len};
+ghost use Rattle.std.specs.Prelude.{◌≡◌, ◌<◌, ◌≤◌, ◌+◌, ◌-◌, ◌*◌, true, false, min, length, IfOk, IfSome, OnOk, IsTrue};
 ghost use Rattle.edge_base.specs.layout.Bitmap.{used_under};
 ghost use Rattle.edge_base.specs.layout.Places.{is_inline_of, imap_nodes_of};
 ghost use Rattle.edge_base.specs.layout.Sizes.{node_bits};
 ghost use Rattle.edge_cache.specs.Calls.{content_in};
 ghost use Rattle.edge_imap.specs.Bitmaps.{IsRootBits, IsFit, IsLive, first_bit};
-ghost use Rattle.edge_imap.specs.Inodes.{HasTable, free_inodes_of, is_free_number, is_pair_under};
+ghost use Rattle.edge_imap.specs.Inodes.{HasTable, is_free_number, is_pair_under};
 ghost use Rattle.edge_imap.specs.Reading.{OnlyReads, TellsWhy};
 ghost use Rattle.edge_imap.specs.Search.{FindsLeast, IsWithin};
 
 use crate::fault::ImapFault;
 use crate::node::{BITS, live_block, read_node, window_of};
-use crate::pairs::{count_clear_pairs, first_clear_pair};
+use crate::pairs::first_clear_pair;
 use edge_base::Geometry;
 use edge_cache::Cache;
 use edge_disk::Disk;
@@ -84,32 +83,6 @@ fn first_in_nodes<D: Disk>(
     Ok(None)
 }
 
-// How many pairs of bits of the inode table are clear, in imap nodes.
-fn count_in_nodes<D: Disk>(
-    g: &Geometry,
-    roots: &[u8],
-    cache: &mut Cache<D>,
-    block: &mut [u8],
-) -> Result<u32, ImapFault>
-    requires external { is_inline_of g.now ≡ false }
-    requires roots { IsRootBits g.now roots.now }
-    requires fits { IsFit g.now (D.origin cache.old.disk) }
-    requires block { length block.old ≡ g.now.block_size }
-    ensures count { IsTrue (D.origin cache.old.disk).shows → IfOk result
-        (λ n. n ≡ count_by (is_pair_under g.now roots.now (content_in D.Disk cache.old))
-        (range_with_len 0 (first_bit g.now))) }
-    ensures reads { OnlyReads D.Disk cache.old cache.new }
-    ensures cause { TellsWhy D.Disk (IsLive g.now roots.now) cache.old cache.new result }
-{
-    let _within_limits = g.request();
-    let mut total = 0u32;
-    for node in 0..table_nodes(g) {
-        let end = read_table(g, roots, cache, block, node)?;
-        total = total.saturating_add(count_clear_pairs(bits_of(block, BITS), end));
-    }
-    Ok(total)
-}
-
 // The even bit of the first pair of clear bits of the inode table.
 fn first_pair<D: Disk>(
     g: &Geometry,
@@ -154,25 +127,4 @@ pub(crate) fn first_number<D: Disk>(
         Some(i) => Ok(Some(2 + i / 2)),
         None => Ok(None),
     }
-}
-
-// How many numbers of inodes have no place that is used under the bits of a root.
-pub(crate) fn count_numbers<D: Disk>(
-    g: &Geometry,
-    roots: &[u8],
-    cache: &mut Cache<D>,
-    block: &mut [u8],
-) -> Result<u32, ImapFault>
-    requires roots { IsRootBits g.now roots.now }
-    requires fits { IsFit g.now (D.origin cache.old.disk) }
-    requires block { length block.old ≡ g.now.block_size }
-    ensures count { IsTrue (D.origin cache.old.disk).shows → IfOk result (λ n. n
-        ≡ free_inodes_of g.now (used_under g.now roots.now (content_in D.Disk cache.old))) }
-    ensures reads { OnlyReads D.Disk cache.old cache.new }
-    ensures cause { TellsWhy D.Disk (IsLive g.now roots.now) cache.old cache.new result }
-{
-    if !g.is_inline() {
-        return count_in_nodes(g, roots, cache, block);
-    }
-    Ok(count_clear_pairs(roots, 2 * g.request().inodes))
 }

@@ -16,7 +16,7 @@ mod state;
 
 pub use edge_alloc::Counts;
 pub use fault::{BlockState, ImapFault, LoadFault};
-pub use imap::Imap;
+pub use imap::{Imap, Loaded};
 pub use laws::{
     a_block_that_is_counted_is_found, a_clean_cache_shows_the_nodes, others_keep_the_lists,
     others_keep_the_tie, the_counts_are_of_the_working_list, the_live_nodes_tell_the_list,

@@ -1,5 +1,5 @@
 -- Live imap nodes, counts that were taken, and the metaroot that was found.
-use Rattle.std.proofs.Common.{◌≡◌, ℕ, zero, suc, ◌+◌, ◌<◌, ◌≤◌, ◌||◌, ◌&&◌, Bool, true, false, not, List, Option, Some, None, refl, sym, ap, ◌∙◌, inl, inr, arith}
+use Rattle.std.proofs.Common.{◌≡◌, ℕ, zero, suc, ◌+◌, ◌<◌, ◌≤◌, ◌||◌, ◌&&◌, Bool, true, false, not, List, Option, Some, None, refl, sym, ap, subst, ◌∙◌, inl, inr, arith}
 use Rattle.std.specs.Prelude.{count_by, is_ok}
 use Rattle.std.specs.List.{list_any, range_with_len}
 use Rattle.std.proofs.lemmas.Bool.{cases_eq}
@@ -58,6 +58,15 @@ free_of_one m content same tied =
     ap (λ (c : Counts). c.free) tied.counts
     ∙ ap (λ (roots : List ℕ). count_by (λ b. not (used_under m.geometry roots content b) && not (working_use m content b)) range) same
     ∙ (λ t. count_by (λ b. twice (working_use m content b) t) range)
+
+-- ---- a bitmap that was loaded
+
+module _ (m : Bitmaps) (g : Request) (bits : List ℕ) (content : ℕ → List ℕ) (geometry : m.geometry ≡ g) (working : m.working ≡ bits) where
+  pub nodes_of_loaded : IsTied m content → HasNodes g bits content
+  nodes_of_loaded tied = subst (λ (w : List ℕ). HasNodes g w content) working (subst (λ (r : Request). HasNodes r m.working content) geometry tied.working)
+
+  pub free_of_loaded : m.committed ≡ bits → IsTied m content → m.counts.free ≡ free_blocks_of g (used_under g bits content)
+  free_of_loaded committed tied = free_of_one m content (committed ∙ sym working) tied ∙ (λ t. free_blocks_of (geometry t) (used_under (geometry t) (working t) content))
 
 -- ---- the live metaroot
 

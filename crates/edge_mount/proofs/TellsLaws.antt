@@ -8,13 +8,11 @@ use Rattle.edge_cache.specs.Cached.{Cached}
 use Rattle.edge_cache.specs.Calls.{content_in}
 use Rattle.edge_disk.specs.Image.{shown_image}
 use Rattle.edge_disk.specs.declared.disk.Disk.{Ghosts}
-use Rattle.edge_imap.specs.Reading.{OnlyReads, NeverDamaged, TellsLoad, TellsWhy}
-use Rattle.edge_imap.specs.declared.fault.ImapFault.{ImapFault}
-use Rattle.edge_imap.specs.declared.fault.ImapFault.TheVariants as imap
+use Rattle.edge_imap.specs.Reading.{OnlyReads, TellsLoad}
 use Rattle.edge_imap.specs.declared.fault.LoadFault.{LoadFault}
 use Rattle.edge_imap.specs.declared.fault.LoadFault.TheVariants as load
 use Rattle.edge_imap.proofs.CallLaws.{shows_on}
-use Rattle.edge_mount.specs.Faults.{of_imap, of_load}
+use Rattle.edge_mount.specs.Faults.{of_load}
 use Rattle.edge_mount.specs.Mounting.{TellsMount, image_of, reason_under}
 use Rattle.edge_mount.proofs.NodeLaws.{first_is_bad}
 use Rattle.edge_mount.proofs.ReasonLaws.{bad}
@@ -83,29 +81,7 @@ module _ {D : Type 0} (g : Ghosts D) where
             ∙ tells.first k (let f : x ≡ NotVolume k = cc h in failed ∙ ap (λ (y : MountFault). Err y) f) (shows_on g old mid reads.origin shows);
       }
 
-  -- the fault of a bitmap that meets no damage was passed on
-  pub tells_imap : {S T : Type 0} (reason : Option ℕ) (P : ℕ → Type 0) (old new : Cached D) (s : Result S ImapFault) (r : Result T MountFault) (e : ImapFault)
-      → TellsWhy g P old new s → (IsTrue (g.origin old.disk).shows → NeverDamaged s) → s ≡ Err e → IsErr r × IsErrAnd r (λ x. x ≡ of_imap e)
-      → TellsMount g reason old new r
-  tells_imap reason P old new s (Ok v) e why never is fails = absurd (cc (fails.0))
-  tells_imap reason P old new s (Err x) imap.Device why never is fails = record {
-    later = why.later;
-    passed = tt;
-    device = λ h. why.device is;
-    memory = λ h. absurd (cc (fails.1, h));
-    read = λ k h. absurd (cc (fails.1, h));
-    first = λ k h. absurd (cc (fails.1, h));
-  }
-  tells_imap reason P old new s (Err x) (imap.Damaged d) why never is fails = record {
-    later = why.later;
-    passed = tt;
-    device = λ h. absurd (cc (fails.1, h));
-    memory = λ h. absurd (cc (fails.1, h));
-    read = λ k h. (why.damaged d is).faults;
-    first = λ k h shows. absurd (never shows d is);
-  }
-
-  -- and that of a load
+  -- the fault of a load was passed on
   pub tells_load : {S T : Type 0} (request : Request) (root : Metaroot) (roots : List ℕ) (old new : Cached D) (s : Result S LoadFault) (r : Result T MountFault)
       (e : LoadFault) → root.sequence ≤ 2 ^ 63 → TellsLoad g request roots old new s → s ≢ Err load.Memory → s ≡ Err e
       → IsErr r × IsErrAnd r (λ x. x ≡ of_load e) → TellsMount g (reason_under request root roots (content_in g old)) old new r

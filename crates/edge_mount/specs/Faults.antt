@@ -1,6 +1,4 @@
--- The faults of a bitmap, as those of a mount.
-use Rattle.edge_imap.specs.declared.fault.ImapFault.{ImapFault}
-use Rattle.edge_imap.specs.declared.fault.ImapFault.TheVariants as imap
+-- The faults of a load, as those of a mount.
 use Rattle.edge_imap.specs.declared.fault.LoadFault.{LoadFault}
 use Rattle.edge_imap.specs.declared.fault.LoadFault.TheVariants as load
 use Rattle.edge_mount.specs.declared.fault.MountFault.{MountFault}
@@ -11,8 +9,3 @@ abbrev pub of_load : LoadFault → MountFault
 of_load load.Device = Device
 of_load (load.Node i) = NotVolume 6
 of_load load.Memory = Memory
-
--- and so is one that is found damaged
-abbrev pub of_imap : ImapFault → MountFault
-of_imap imap.Device = Device
-of_imap (imap.Damaged d) = NotVolume 6

@@ -25,31 +25,6 @@ fn reason_in_counts(root: &Metaroot, free_blocks: u32, free_inodes: u32) -> Opti
     if free_blocks < 3 { Some(8) } else { None }
 }
 
-// Counts what is free, and answers the reason that lies in the counts of a metaroot.
-fn check_counts<D: Disk>(
-    cache: &mut Cache<D>,
-    imap: &mut Imap,
-    root: &Metaroot,
-) -> Result<(), MountFault>
-    requires fits { IsFit imap.old.geometry (D.origin cache.old.disk) }
-    requires settled { imap.old.committed ≡ imap.old.working }
-    requires tied { IsTrue (D.origin cache.old.disk).shows
-        → IsTied imap.old (content_in D.Disk cache.old) }
-    ensures counts { IsTrue (D.origin cache.old.disk).shows → OnOk result
-        (HasCounts imap.old.geometry root.now
-        (working_use imap.old (content_in D.Disk cache.old))) }
-    ensures same { imap.new ≡ imap.old }
-    ensures reads { OnlyReads D.Disk cache.old cache.new }
-    ensures cause { TellsMount D.Disk (reason_of_counts imap.old.geometry root.now
-        (working_use imap.old (content_in D.Disk cache.old))) cache.old cache.new result }
-{
-    let free_inodes = imap.count_free_inodes(cache)?;
-    match reason_in_counts(root, imap.counts().free, free_inodes) {
-        Some(reason) => Err(MountFault::NotVolume(reason)),
-        None => Ok(()),
-    }
-}
-
 /// Loads the bitmap below a live metaroot, of whose bitmap these are the bytes, and answers the
 /// first of the reasons 5 to 8 that holds.
 pub(crate) fn load_bitmap<D: Disk>(
@@ -80,7 +55,9 @@ pub(crate) fn load_bitmap<D: Disk>(
     if root.sequence > 1 << 63 {
         return Err(MountFault::NotVolume(5));
     }
-    let mut imap = Imap::load_in(room, g, bits, cache)?;
-    check_counts(cache, &mut imap, root)?;
-    Ok(imap)
+    let loaded = Imap::load_in(room, g, bits, cache)?;
+    match reason_in_counts(root, loaded.imap.counts().free, loaded.numbers) {
+        Some(reason) => Err(MountFault::NotVolume(reason)),
+        None => Ok(loaded.imap),
+    }
 }

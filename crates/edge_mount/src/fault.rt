@@ -1,7 +1,7 @@
 ghost use Rattle.std.specs.Prelude.{◌≡◌};
 
 use edge_disk::DeviceFault;
-use edge_imap::{ImapFault, LoadFault};
+use edge_imap::LoadFault;
 
 /// Why an image is not mounted.
 #[derive(Clone, Copy, Debug, PartialEq, Eq)]
@@ -34,19 +34,6 @@ impl From<LoadFault> for MountFault {
             LoadFault::Device => MountFault::Device,
             LoadFault::Node(_) => MountFault::NotVolume(6),
             LoadFault::Memory => MountFault::Memory,
-        }
-    }
-}
-
-impl From<ImapFault> for MountFault {
-    ghost use Rattle.edge_mount.specs.Faults.{of_imap};
-
-    ghost from_gives = { λ fault e. e ≡ of_imap fault };
-
-    fn from(fault: ImapFault) -> Self {
-        match fault {
-            ImapFault::Device => MountFault::Device,
-            ImapFault::Damaged(_) => MountFault::NotVolume(6),
         }
     }
 }

@@ -11,6 +11,3 @@ mod volume;
 
 pub use fault::MountFault;
 pub use volume::{Mounted, mount};
-
-#[cfg(test)]
-mod tests;

@@ -11,5 +11,5 @@ counts_in-requires-clause-committed c = roots_room c.args.g.now c.args.roots.now
 pub counts_in-requires-clause-working : goal.counts_in-requires-clause-working
 counts_in-requires-clause-working c = roots_room c.args.g.now c.args.roots.now _ _ c.requires.inline c.request.ensures.limits.room (ap (λ (r : Request). 2 * r.inodes) c.request.ensures.same) c.allocable.ensures.count c.requires.roots.len
 
-pub returns : goal.returns
-returns c = ap (λ (x : Counts). x.free) c.counts_in.ensures ∙ count_of_roots c.args.g.now c.args.roots.now _ _ (ap (λ (r : Request). 2 * r.inodes) c.request.ensures.same) c.allocable.ensures.count
+pub returns-clause-blocks : goal.returns-clause-blocks
+returns-clause-blocks c = ap (λ (x : Counts). x.free) c.counts_in.ensures ∙ count_of_roots c.args.g.now c.args.roots.now _ _ (ap (λ (r : Request). 2 * r.inodes) c.request.ensures.same) c.allocable.ensures.count
