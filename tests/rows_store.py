@@ -34,7 +34,7 @@ class Store:
         self.first, self.end, self.numbers = self.table + 2 * inodes, blocks, range(2, 2 + inodes)
         self.most = direct + indirect * self.inner + (self.entries - direct - indirect) * self.inner**2
         self.sizes, self.held = {2: 0}, {2: {}}
-        self.blocks, self.committed, self.live = {}, set(), True
+        self.blocks, self.committed, self.live, self.calls = {}, set(), True, 0
 
     # -- blocks
 
@@ -49,6 +49,10 @@ class Store:
         after = [b for b in range(self.first, self.end) if b not in self.blocks]
         return [b for b in after if b not in self.committed], after
 
+    def least_free(self):
+        """The least block that neither view uses, if there is one."""
+        return next((b for b in range(self.first, self.end) if b not in self.blocks and b not in self.committed), None)
+
     def at(self, b, form, n):
         """A block read as one of this form and owner. Bytes alone have no owner and no form of their own."""
         if b not in self.blocks:
@@ -62,7 +66,7 @@ class Store:
 
     def take(self, block):
         """The least free block, as this one."""
-        b = self.free()[0][0]
+        b = self.least_free()
         self.blocks[b] = block
         return b
 
@@ -107,11 +111,13 @@ class Store:
 
     # -- changes
 
-    def renewed(self, b, form, n):
-        """The block where it is new; else a free one, with the same in it, or with nothing where it was absent."""
+    def renewed(self, b, form, n, whole=False):
+        """The block where it is new; else a free one, with the same in it, or with nothing where it was absent. One that is written
+        whole is not copied: it is dropped, and an empty one is taken."""
+        self.calls += 2 if self.is_new(b) else 4 + whole if b else 3
         if self.is_new(b):
             return b
-        if not self.free()[0]:
+        if self.least_free() is None:
             raise Damage("Tangled", self.place(n))
         if not b:
             return self.take(Block(form, n, {}, bytearray(self.size)))
@@ -119,11 +125,11 @@ class Store:
         del self.blocks[b]
         return new
 
-    def writable(self, n, i):
-        """Makes each position of the chain new, from the entry down."""
+    def writable(self, n, i, whole=False):
+        """Makes each position of the chain new, from the entry down, to write in the data block or all of it."""
         held = self.held[n]
         for place, form in self.way(i):
-            held[place] = b = self.renewed(held.get(place, 0), form, n)
+            held[place] = b = self.renewed(held.get(place, 0), form, n, whole and form == "data")
             held = self.at(b, form, n).held
         return b
 
@@ -184,6 +190,16 @@ class Store:
             self.drop_tree(self.held_at(n, way)[place], form, n)
             del self.held_at(n, way)[place]
 
+    def cut_calls(self, n):
+        """The calls of a cut of all: each entry is asked for, and set where it leads to a block."""
+        return self.entries + sum(1 + self.tree_calls(b, self.entry_form(e), n) for e, b in self.held[n].items())
+
+    def tree_calls(self, b, form, n):
+        """A block is dropped, and each place of a pointer node is asked for once before."""
+        if form == "data":
+            return 1
+        return self.inner + 1 + sum(self.tree_calls(below, UNDER[form], n) for below in self.at(b, form, n).held.values())
+
     def drop_tree(self, b, form, n):
         if form != "data":
             for below in list(self.at(b, form, n).held.values()):
@@ -196,11 +212,18 @@ class Store:
         """The positions above and at the data blocks that the bytes lie in whose blocks are not new."""
         found = {}
         for i in range(at // self.size, (at + count - 1) // self.size + 1):
-            way = []
-            for (place, _), b in zip(self.way(i), self.chain(n, i)):
+            way, above = [], 0
+            for (place, form), b in zip(self.way(i), self.chain(n, i)):
                 way.append(place)
-                found[tuple(way)] = b
+                if tuple(way) not in found:
+                    self.calls += self.asked(len(way), form, above) + bool(b)
+                found[tuple(way)], above = b, b
         return sum(not self.is_new(b) for b in found.values())
+
+    def asked(self, depth, form, above):
+        """The calls in which a block is looked up: an entry, or a place of a node that is there, for which the entry above an
+        indirect node is asked again."""
+        return 1 if depth == 1 else bool(above) + (form == "indirect")
 
     def fresh_of_size(self, n, size):
         """Of a node that is made shorter: where its last data block has bytes behind the size, those of its chain; else those of
@@ -222,21 +245,26 @@ class Store:
 
     def read(self, n, at, count):
         end, data, data_of = min(at + count, self.sized(n)), b"", -1
+        self.calls += 1
         for byte in range(at, end):
             if byte // self.size != data_of:
                 data_of = byte // self.size
-                *_, b = self.chain(n, data_of)
+                *above, b = self.chain(n, data_of)
+                self.calls += 1 + sum(map(bool, above)) + bool(b)
                 content = self.at(b, "data", n).content if b else bytes(self.size)
             data += content[byte % self.size:byte % self.size + 1]
         return data
 
     def write(self, n, at, data):
-        size = self.sized(n)
+        size, end = self.sized(n), at + len(data)
         for done, byte in enumerate(data, at):
             if done == at or done % self.size == 0:
-                content = self.blocks[self.writable(n, done // self.size)].content
+                whole = done % self.size == 0 and end - done >= self.size
+                content = self.blocks[self.writable(n, done // self.size, whole)].content
+                self.calls += 1
             content[done % self.size] = byte
-        self.sizes[n] = max(size, at + len(data))
+        self.calls += 1 + (end > size)
+        self.sizes[n] = max(size, end)
 
     def resize(self, n, size):
         if size < self.sized(n):
@@ -348,8 +376,18 @@ class StoreTable:
         s.write(self.node(s, n, int(at) + len(data) <= s.most * s.size), int(at), data)
         return "done"
 
-    def do_write(self, s, n, at, digits):
-        return self.written(s, n, at, bytes.fromhex(digits))
+    def do_write(self, s, n, at, digits, times=1):
+        return self.written(s, n, at, bytes.fromhex(digits) * int(times))
+
+    def do_calls(self, s, verb, *words):
+        """A statement, and the calls of the store that it makes, with the one that asks for the node."""
+        s.calls = 1
+        if verb == "cut" and words[1] == "0":
+            s.calls += s.cut_calls(int(words[0]))
+        elif verb not in ("write", "fill", "read") and [verb, *words][:2] != ["fresh", "bytes"]:
+            raise Unknown(verb)
+        calls, answer = s.calls, self.told(verb, words)
+        return f"{answer}, {calls if verb == 'cut' else s.calls} calls"
 
     def do_fill(self, s, n, at, count, byte):
         return self.written(s, n, at, bytes.fromhex(byte) * int(count))

@@ -153,7 +153,7 @@ fn cut_pair<S: Store>(
 /// under them.
 ///
 /// It takes as many free blocks as `cut_cost` counts. Where fewer are free, the store ends with a
-/// tangled node.
+/// tangled node. Where it meets a pointer node with no pointer, the store ends with a wrong shape.
 pub fn cut_from<S: Store>(s: &mut S, n: u32, i: u32) -> Result<(), StoreFault>
     requires live { IsLive (S.state s.old) }
     requires number { IsNumber (S.state s.old) n }

@@ -11,6 +11,8 @@ use std::alloc::Global;
 
 // The most bytes that are read at once.
 const READ_MOST: u32 = 65_536;
+// How often bytes are written at most, one behind the other.
+const TIMES_MOST: u32 = 1 << 20;
 
 /// What a store answers to a statement on the bytes of a node: VERB NUMBER AT, and what is written.
 pub fn ask_bytes<S: Store>(
@@ -23,12 +25,27 @@ pub fn ask_bytes<S: Store>(
     let n = number32(words, 1)?;
     let at = word(words, 2)?.parse::<u64>()?;
     Ok(match word(words, 0)? {
-        "write" => write(s, n, at, &hex::decode(alloc, word(words, 3)?)?),
+        "write" => write(s, n, at, &bytes_of(alloc, words)?),
         "fill" => fill(s, n, at, number32(words, 3)?, byte(alloc, word(words, 4)?)?),
         "grow" => grow_to(s, n, at),
         "resize" => resize(s, n, at),
         verb => bail!("no statement: {verb}"),
     })
+}
+
+// What is written: digits, behind the first three words, and how many times, if not once.
+fn bytes_of(alloc: Global, words: &[&str]) -> Told<Vec<u8>> {
+    let bytes = hex::decode(alloc, word(words, 3)?)?;
+    if words.len() == 4 {
+        return Ok(bytes);
+    }
+    let times = number32(words, 4)?;
+    ensure!(times <= TIMES_MOST, "{times} times");
+    let mut run = Vec::new(alloc);
+    for _ in 0..times {
+        run.extend_from_slice(&bytes)?;
+    }
+    Ok(run)
 }
 
 /// Appends the bytes that are read of a node, and how many there are: NUMBER AT COUNT.

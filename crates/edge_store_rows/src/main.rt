@@ -6,18 +6,20 @@
 mod answer;
 mod blocks;
 mod bytes;
+mod counted;
 mod exact;
 mod hand;
 mod row;
 mod space;
 mod there;
 
+use crate::counted::Counted;
 use crate::row::answer_row;
 use anyhow::{Context, Result};
 use edge_plain::PlainStore;
 
 fn main(rt: HostRuntime) -> Result<()> {
-    let mut store: Option<PlainStore> = None;
+    let mut store: Option<Counted<PlainStore>> = None;
     for line in rt.lines(rt.alloc()) {
         let line = line?;
         rt.println(line.as_str())?;

@@ -1,6 +1,7 @@
 use crate::answer::push_told;
 use crate::blocks::ask_blocks;
 use crate::bytes::{ask_bytes, push_read};
+use crate::counted::Counted;
 use crate::exact::ask_change;
 use crate::hand::ask_by_hand;
 use crate::space::ask_space;
@@ -12,17 +13,21 @@ use edge_store::Store;
 use std::alloc::Global;
 
 /// What the statements of a line answer.
-pub fn answer_row(alloc: Global, store: &mut Option<PlainStore>, line: &str) -> Result<String> {
+pub fn answer_row(
+    alloc: Global,
+    store: &mut Option<Counted<PlainStore>>,
+    line: &str,
+) -> Result<String> {
     let mut out = String::new(alloc);
     for statement in line.split("; ") {
         let words: Vec<&str> = statement.split(' ').collect(alloc)?;
         if word(&words, 0)? == "volume" {
-            *store = Some(new_store(alloc, &words)?);
+            *store = Some(Counted::new(new_store(alloc, &words)?));
             continue;
         }
         write!(out, "  {statement}: ")?;
         let s = store.as_mut().context("no volume")?;
-        push_answer(alloc, &mut out, s, &words)?;
+        push_counted(alloc, &mut out, s, &words)?;
         out.push('\n')?;
     }
     Ok(out)
@@ -42,6 +47,22 @@ fn new_store(alloc: Global, words: &[&str]) -> Result<PlainStore> {
         Ok(geometry) => Ok(PlainStore::new(alloc, geometry)?),
         Err(limit) => bail!("no geometry: {limit:?}"),
     }
+}
+
+// Appends what a statement answers, and of one behind `calls` how many calls of the store it makes.
+fn push_counted<S: Store>(
+    alloc: Global,
+    out: &mut String,
+    s: &mut Counted<S>,
+    words: &[&str],
+) -> Result<()> {
+    let ["calls", rest @ ..] = words else {
+        return push_answer(alloc, out, s, words);
+    };
+    s.count_anew();
+    push_answer(alloc, out, s, rest)?;
+    write!(out, ", {} calls", s.calls())?;
+    Ok(())
 }
 
 // Appends what a statement answers.
