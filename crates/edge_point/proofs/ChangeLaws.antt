@@ -23,10 +23,10 @@ use Rattle.edge_anchor.proofs.ViewLaws.{used_same}
 use Rattle.edge_point.specs.Changing.{Changes, HasWorking, TakesStep}
 use Rattle.edge_point.specs.Ended.{damage_after, ended}
 use Rattle.edge_point.specs.Seen.{IsGuarded, anchor_of, last_view, state_of}
-use Rattle.edge_point.specs.Spared.{Spares}
+use Rattle.edge_phase.specs.Spared.{Spares}
 use Rattle.edge_point.specs.Standing.{IsPoint, IsTold}
 use Rattle.edge_point.specs.declared.parts.Parts.{Parts}
-use Rattle.edge_point.proofs.SparedLaws.{last_stays, last_view as view_stays}
+use Rattle.edge_phase.proofs.SparedLaws.{last_stays, last_view as view_stays}
 use Rattle.edge_point.proofs.StandsLaws.{point_on}
 use Rattle.edge_point.proofs.TakesLaws.{if_same, untorn_none}
 

@@ -14,16 +14,13 @@ pub mod MakeLaws
 pub mod MountedLaws
 pub mod NodeLaws
 pub mod NumberLaws
-pub mod PhaseLaws
 pub mod PlacedLaws
 pub mod PutLaws
 pub mod ReadLaws
 pub mod RoomLaws
 pub mod SetLaws
-pub mod SparedLaws
 pub mod StandsLaws
 pub mod StepLaws
 pub mod TakesLaws
-pub mod TieLaws
 pub mod TransactLaws
 pub mod WorkingLaws

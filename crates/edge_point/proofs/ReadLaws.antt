@@ -21,11 +21,11 @@ use Rattle.edge_anchor.specs.Medium.{Follows, medium_of, none_given, shown_alone
 use Rattle.edge_anchor.proofs.CutLaws.{SureIsShown, committed_alone}
 use Rattle.edge_anchor.proofs.KeepLaws.{follows_more, gives_follow, shown_follows}
 use Rattle.edge_point.specs.Seen.{IsGuarded, anchor_of, last_view, next_view, place_under, places_of, state_of}
-use Rattle.edge_point.specs.Spared.{Spares}
+use Rattle.edge_phase.specs.Spared.{Spares}
 use Rattle.edge_point.specs.Standing.{IsPoint, IsTold}
 use Rattle.edge_point.specs.Steps.{KeepsRest}
 use Rattle.edge_point.specs.declared.parts.Parts.{Parts}
-use Rattle.edge_point.proofs.SparedLaws.{last_stays, last_view as view_stays}
+use Rattle.edge_phase.proofs.SparedLaws.{last_stays, last_view as view_stays}
 use Rattle.edge_point.proofs.StandsLaws.{point_on}
 use Rattle.edge_point.proofs.TakesLaws.{if_same}
 

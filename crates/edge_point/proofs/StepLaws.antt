@@ -30,13 +30,13 @@ use Rattle.edge_point.specs.Changing.{Changes, TakesStep, committed_of, working_
 use Rattle.edge_point.specs.Ended.{damage_after, of_imap}
 use Rattle.edge_point.specs.Finding.{Sees, kept_after}
 use Rattle.edge_point.specs.Seen.{anchor_of}
-use Rattle.edge_point.specs.Spared.{Spares, as_told}
+use Rattle.edge_phase.specs.Spared.{Spares, as_told}
 use Rattle.edge_point.specs.Standing.{IsPoint}
 use Rattle.edge_point.specs.Steps.{KeepsRest}
 use Rattle.edge_point.specs.declared.parts.Parts.{Parts}
 use Rattle.edge_point.proofs.ChangeLaws.{list_shown}
 use Rattle.edge_point.proofs.EndedLaws.{imap_because}
-use Rattle.edge_point.proofs.SparedLaws.{block_spares, follows_then, led_told, spared_committed, write_follows}
+use Rattle.edge_phase.proofs.SparedLaws.{block_spares, follows_then, led_told, spared_committed, write_follows}
 use Rattle.edge_point.proofs.StandsLaws.{point_on}
 
 -- the same parts over another cache and another bitmap
@@ -179,7 +179,7 @@ module _ {D : Type 0} (g : Ghosts D) where
     spares_back : IsTrue (g.origin p.cache.disk).shows → (k : ℕ) (c : List ℕ) → Spares middle k c → Spares last k c
     spares_back shows k c spares =
         let at = subst (λ (x : Anchor). Spares x k c) (sym middle_is) spares in
-        ((λ needs. at.0 (⊎_elim (λ e. inl e) (λ led. inr (led_told last (g.shown m.cache.disk) (still_hangs shows) k led)) needs)), at.1)
+        ((λ needs. at.0 (⊎_elim (λ e. inl e) (λ led. inr (led_told last (g.shown m.cache.disk) (still_hangs shows) k led)) needs)), at.1, at.2)
 
     pub changes_after : Changes g IsSuch p q
     changes_after = record {
@@ -292,7 +292,7 @@ module _ {D : Type 0} (g : Ghosts D) where
         committed = ap (λ (m : Bitmaps). m.committed) imap;
         origin = origin;
         spares = λ shows. let free = unused_free (g.origin p.cache.disk) point (point_on g p is) b has (unused_shown shows) in
-            block_spares point b (medium_of g p.cache) (medium_of g q.cache) free.0 free.1 (write_follows (medium_of g p.cache) (medium_of g q.cache) b only.gives);
+            block_spares point b (medium_of g p.cache) (medium_of g q.cache) free.0 free.1 has.below (write_follows (medium_of g p.cache) (medium_of g q.cache) b only.gives);
         tied = λ shows. subst (λ (m : Bitmaps). IsTied m (content_in g q.cache)) (sym imap)
             (tie_stays p.imap (content_in g p.cache) (content_in g q.cache) (long_blocks p.imap.geometry.block_size (subst (λ (x : Request). IsWithinLimits x) (sym is.imap) bounds).block_size)
             (same_nodes shows) (is.told live shows).tied);
@@ -325,7 +325,8 @@ module _ {D : Type 0} (g : Ghosts D) where
           (record { waits = λ k x h. inl h; shown = λ k. inl refl; adds = λ k x h. inl h; sure = λ k never h. h })
       set_spares false e =
           let free = free_at p.imap.geometry is.imap e inside in
-          block_spares point _ (medium_of g p.cache) (medium_of g q.cache) free.0 free.1 (write_follows (medium_of g p.cache) (medium_of g q.cache) _ (sets.writes e).gives)
+          let low = before p.imap.geometry is.imap e inside in
+          block_spares point _ (medium_of g p.cache) (medium_of g q.cache) free.0 free.1 (omega (arith, low, bounds.room)) (write_follows (medium_of g p.cache) (medium_of g q.cache) _ (sets.writes e).gives)
 
       set_contents : (t : Bool) → is_inline_of p.imap.geometry ≡ t → IsTrue (g.origin p.cache.disk).shows → (k : ℕ) → HasBit request k
           → content_in g q.cache k ≡ content_in g p.cache k

@@ -17,9 +17,9 @@ use Rattle.edge_store.specs.declared.fault.StoreFault.TheVariants.{Device}
 use Rattle.edge_anchor.specs.Anchor.{Anchor}
 use Rattle.edge_anchor.specs.Medium.{Follows, IsCommitted, medium_of, shown_alone}
 use Rattle.edge_anchor.proofs.CutLaws.{SureIsShown, committed_alone}
-use Rattle.edge_point.specs.Phases.{MayCommit, OpensAsEither, Settles, next_of}
+use Rattle.edge_phase.specs.Phases.{MayCommit, OpensAsEither, Settles, next_of}
 use Rattle.edge_point.specs.Seen.{IsGuarded, anchor_of, last_view, next_view, places_of, state_of}
-use Rattle.edge_point.specs.Spared.{block_given}
+use Rattle.edge_phase.specs.Spared.{block_given}
 use Rattle.edge_point.specs.Standing.{IsPoint}
 use Rattle.edge_point.specs.Steps.{KeepsRest}
 use Rattle.edge_point.specs.declared.parts.Parts.{Parts}

@@ -27,13 +27,13 @@ use Rattle.edge_anchor.proofs.HangLaws.{spare_far, spare_low, root_apart}
 use Rattle.edge_anchor.proofs.KeepLaws.{shown_kept, shown_follows}
 use Rattle.edge_anchor.proofs.PlaceLaws.{allocable_within, free_inodes_same, place_has_bit}
 use Rattle.edge_anchor.proofs.ViewLaws.{used_same, view_stays}
-use Rattle.edge_point.specs.Phases.{MayCommit, OpensAsEither, Settles, next_of}
+use Rattle.edge_phase.specs.Phases.{MayCommit, OpensAsEither, Settles, next_of}
 use Rattle.edge_point.specs.Seen.{IsLeft, anchor_of, last_view, next_view, place_under, places_of, second_alone}
-use Rattle.edge_point.specs.Spared.{as_told, block_given}
+use Rattle.edge_phase.specs.Spared.{as_told, block_given}
 use Rattle.edge_point.specs.Standing.{IsPoint, IsTold}
 use Rattle.edge_point.specs.Steps.{KeepsRest}
 use Rattle.edge_point.specs.declared.parts.Parts.{Parts}
-use Rattle.edge_point.proofs.SparedLaws.{told_committed}
+use Rattle.edge_phase.proofs.SparedLaws.{told_committed}
 use Rattle.edge_point.proofs.StandsLaws.{point_on}
 
 elim_bool : (P : Bool → Type 0) → P true → P false → (t : Bool) → P t

@@ -24,7 +24,7 @@ use Rattle.edge_point.specs.Standing.{IsPoint}
 use Rattle.edge_point.specs.declared.parts.Parts.{Parts}
 use Rattle.edge_point.proofs.ChangeLaws.{changed, follows_shown, last_shown, list_shown}
 use Rattle.edge_point.proofs.RoomLaws.{within}
-use Rattle.edge_point.proofs.SparedLaws.{spared_shown}
+use Rattle.edge_phase.proofs.SparedLaws.{spared_shown}
 use Rattle.edge_point.proofs.TakesLaws.{if_same}
 
 -- ---- places

@@ -19,7 +19,7 @@ use Rattle.edge_anchor.specs.Anchor.{HasBit}
 use Rattle.edge_anchor.specs.Medium.{Follows, medium_of}
 use Rattle.edge_point.specs.Finding.{kept_after}
 use Rattle.edge_point.specs.Seen.{anchor_of}
-use Rattle.edge_point.specs.Spared.{Spares}
+use Rattle.edge_phase.specs.Spared.{Spares}
 use Rattle.edge_point.specs.declared.parts.Parts.{Parts}
 
 -- the places of the inode of number n

@@ -3,9 +3,7 @@ pub mod Changing
 pub mod Ended
 pub mod Finding
 pub mod Mounted
-pub mod Phases
 pub mod Seen
-pub mod Spared
 pub mod Standing
 pub mod StandingLaws
 pub mod Steps

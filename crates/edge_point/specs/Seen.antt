@@ -60,7 +60,8 @@ module _ {D : Type 0} (g : Ghosts D) where
   IsLeft p image = OpensAs (anchor_of p) (last_view p) image
       ⊎ ((p.torn ≡ true) × ((b : Anchor) × IsNext (anchor_of p) b × OpensAs b (next_view p) image))
 
-  -- The disk tells all, each block had one candidate as it was mounted, and what this promises has held since.
+  -- The disk tells what it shows and the candidates, and a cut leaves what is promised. A mount gives this where each block had one
+  -- candidate and the disk had had no fault, and no call takes it away.
   pub record IsGuarded (p : Parts D) : Type 0 where
     pub shows : IsTrue (g.origin p.cache.disk).shows
     pub keeps : IsTrue (g.origin p.cache.disk).keeps

@@ -16,7 +16,9 @@ module _ {D : Type 0} (g : Ghosts D) where
   pub record IsTold (p : Parts D) : Type 0 where
     pub committed : IsCommitted (anchor_of g p) (shown_alone (medium_of g p.cache))
     pub tied : IsTied p.imap (content_in g p.cache)
+    -- the count of numbers without an inode is that of the working list
     pub numbers : p.numbers ≡ free_inodes_of p.master.geometry (used_under p.master.geometry p.imap.working (content_in g p.cache))
+    -- what is read of an allocable block is a whole block
     pub whole : (b : ℕ) → is_allocable p.master.geometry b ≡ true → length (content_in g p.cache b) ≡ p.master.geometry.block_size
     -- A number both of whose places the last point uses keeps both: its inode is damaged, and no call changes it.
     pub both_stay : (n : ℕ) → is_number p.master.geometry n ≡ true

@@ -8,17 +8,17 @@ ghost use Rattle.edge_store.specs.Calls.{Called, TakesPoint};
 ghost use Rattle.edge_store.specs.State.{IsLive};
 ghost use Rattle.edge_store.specs.Told.{MeetsNone};
 ghost use Rattle.edge_anchor.specs.Medium.{Follows, IsCommitted, medium_of, shown_alone};
-ghost use Rattle.edge_point.specs.Phases.{MayCommit, OpensAsEither, Settles, next_of};
+ghost use Rattle.edge_phase.specs.Phases.{MayCommit, OpensAsEither, Settles, next_of};
 ghost use Rattle.edge_point.specs.Seen.{anchor_of, state_of};
-ghost use Rattle.edge_point.specs.Spared.{block_given};
+ghost use Rattle.edge_phase.specs.Spared.{block_given};
 ghost use Rattle.edge_point.specs.Standing.{IsPoint};
 ghost use Rattle.edge_point.specs.Steps.{KeepsRest};
 
 use crate::parts::Parts;
-use crate::phase::commit;
 use edge_base::Metaroot;
 use edge_disk::{DeviceFault, Disk};
 use edge_imap::Counts;
+use edge_phase::commit;
 use edge_store::StoreFault;
 
 // The metaroot of the next point: with the next sequence number, and what is free then.
@@ -78,7 +78,7 @@ fn commit_parts<D: Disk>(p: &mut Parts<D>, place: u32, root: &Metaroot) -> Resul
     )
 }
 
-/// Takes a point: the committed view becomes the working one.
+/// Takes a point: the working view becomes that of the last point.
 pub(crate) fn transact<D: Disk>(p: &mut Parts<D>) -> Result<(), StoreFault>
     requires stands { IsPoint D.Disk p.old }
     requires live { IsLive (state_of D.Disk p.old) }

@@ -11,7 +11,7 @@ use Rattle.edge_store.specs.declared.fault.StoreFault.TheVariants.{Device}
 use Rattle.edge_anchor.proofs.PlaceLaws.{place_has_bit}
 use Rattle.edge_point.specs.Changing.{IsBlock}
 use Rattle.edge_point.proofs.ChangeLaws.{passes_point}
-use Rattle.edge_point.proofs.PhaseLaws.{whole_write}
+use Rattle.edge_phase.proofs.PhaseLaws.{whole_write}
 use Rattle.edge_point.proofs.PlacedLaws.{is_sealed}
 use Rattle.edge_point.proofs.StepLaws.{changes_none, changes_write, over, rest_over, step_failed, step_passed, wrote_used}
 use Rattle.edge_point.proofs.WorkingLaws.{has_working_table}

@@ -1,0 +1,4 @@
+pub mod OpenedLaws
+pub mod PhaseLaws
+pub mod SparedLaws
+pub mod TieLaws

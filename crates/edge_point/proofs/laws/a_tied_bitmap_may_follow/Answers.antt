@@ -1,5 +1,0 @@
-use Rattle.edge_point.proofs.TieLaws.{tied_follows}
-use Rattle.edge_point.proofs.laws.a_tied_bitmap_may_follow.Goals as goal
-
-pub returns : goal.returns
-returns c = tied_follows
