@@ -1,0 +1,4 @@
+pub mod Stopped
+pub mod Volume
+pub mod Parts
+pub mod Did
