@@ -1,21 +1,17 @@
 -- How parts of a command come to states over points, one after the other.
-use Rattle.std.proofs.Common.{◌≡◌, ◌∙◌, ℕ, suc, ◌+◌, ◌-◌, ◌≤◌, ◌<◌, ◌++◌, Bool, true, false, List, [], ◌∷◌, length, refl, sym, ap, subst, arith, append-nil, Option, Some, None}
-use Rattle.std.specs.Prelude.{is_some, is_none}
+use Rattle.std.proofs.Common.{◌≡◌, ◌∙◌, ℕ, suc, ◌+◌, ◌-◌, ◌++◌, Bool, true, false, List, [], ◌∷◌, length, refl, sym, ap, subst, arith, Option, Some, None}
+use Rattle.std.specs.Prelude.{is_some}
 use Rattle.std.proofs.lemmas.List.{get_or_append_left, length-append}
-use Rattle.edge_base.specs.declared.damage.Damage.{Damage}
-use Rattle.edge_base.specs.declared.geometry.Request.{Request}
 use Rattle.edge_store.specs.declared.fault.StoreFault.{StoreFault}
 use Rattle.edge_store.specs.declared.store.Store.{Ghosts as StoreGhosts}
 use Rattle.edge_store.specs.Calls.{KeepsPoint}
 use Rattle.edge_store.specs.State.{StoreState}
-use Rattle.edge_store.specs.View.{View}
 use Rattle.edge_model.specs.Asking.{IsAt, tree_at}
 use Rattle.edge_model.specs.Laws.{last_or}
 use Rattle.edge_model.specs.State.{State}
 use Rattle.edge_model.specs.Tree.{Tree}
-use Rattle.edge_image.specs.Opens.{StandsFor}
 use Rattle.edge_volume.specs.Volume.{StoreStands}
-use Rattle.edge_volume.specs.Parts.{EndsBy, Looks, IsOfNoDamage, StandsSome, IsAmong, Comes}
+use Rattle.edge_volume.specs.Parts.{EndsBy, Looks, IsOfNoDamage, IsAmong, Comes}
 use Rattle.edge_volume.proofs.LookLaws.{looks_stands}
 
 -- ---- where a store is among trees

@@ -1,5 +1,5 @@
 -- What a command did, by what its parts did: at each of its ends.
-use Rattle.std.proofs.Common.{◌≡◌, ◌∙◌, ℕ, ◌+◌, ◌≤◌, Bool, true, false, List, [], ◌∷◌, refl, sym, ap, subst, arith, Option, Some, None}
+use Rattle.std.proofs.Common.{◌≡◌, ◌∙◌, ℕ, ◌+◌, ◌≤◌, Bool, true, false, List, [], refl, sym, ap, subst, arith, Option, Some, None}
 use Rattle.std.specs.Prelude.{Result, Ok, Err}
 use Rattle.edge_base.specs.declared.geometry.Request.{Request}
 use Rattle.edge_base.specs.declared.refusal.Refusal.{Refusal}
@@ -9,7 +9,7 @@ use Rattle.edge_store.specs.State.{StoreState}
 use Rattle.edge_model.specs.declared.command.Answer.{Answer}
 use Rattle.edge_model.specs.declared.command.Answer.TheVariants as a
 use Rattle.edge_model.specs.Asked.{Asked, told_by}
-use Rattle.edge_model.specs.Asking.{IsInLimits, IsInBuffer, AnswersMask, OpensAfter, mask_after, may_set_mask, may_open_or_close}
+use Rattle.edge_model.specs.Asking.{IsInBuffer, AnswersMask, mask_after, may_open_or_close}
 use Rattle.edge_model.specs.Bytes.{IsOfBytes}
 use Rattle.edge_model.specs.State.{State, Plan, Edit, edited, planned}
 use Rattle.edge_model.specs.Step.{plan, step}
@@ -18,7 +18,7 @@ use Rattle.edge_volume.specs.declared.stop.Stop.{Stop}
 use Rattle.edge_volume.specs.declared.stop.Stop.TheVariants.{Refused, Fault}
 use Rattle.edge_volume.specs.Volume.{VolumeState, StoreStands, VolumeStands, request_of, opens_of, point_after, trees_after, points_due}
 use Rattle.edge_volume.specs.Parts.{EndsBy, TakesUpTo, IsOfNoDamage, Comes}
-use Rattle.edge_volume.specs.Did.{KeepsMask, KeepsOpen, Meets, Did}
+use Rattle.edge_volume.specs.Did.{KeepsMask, KeepsOpen, Did}
 use Rattle.edge_volume.proofs.FaultLaws.{ends_none, ends_on, takes_none, takes_on}
 use Rattle.edge_volume.proofs.LookLaws.{stands_still}
 use Rattle.edge_volume.proofs.ComeLaws.{comes_none, comes_to, comes_on}

@@ -1,5 +1,5 @@
 -- Faults of parts, one after the other.
-use Rattle.std.proofs.Common.{◌≡◌, ◌∙◌, ℕ, ◌+◌, ◌≤◌, true, refl, sym, ap, arith, Option, Some, None}
+use Rattle.std.proofs.Common.{◌≡◌, ◌∙◌, ℕ, ◌+◌, ◌≤◌, true, refl, sym, arith, Option, Some, None}
 use Rattle.std.specs.Prelude.{Result, Ok, Err}
 use Rattle.edge_base.specs.outside.Faults.{Because}
 use Rattle.edge_store.specs.declared.fault.StoreFault.{StoreFault}

@@ -5,3 +5,4 @@ pub mod PointLaws
 pub mod StepLaws
 pub mod DidLaws
 pub mod OpenLaws
+pub mod NodeLaws

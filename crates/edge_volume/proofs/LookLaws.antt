@@ -1,14 +1,13 @@
 -- Parts that only read, one after the other.
-use Rattle.std.proofs.Common.{◌≡◌, ◌∙◌, ℕ, true, refl, sym, ap, subst, Option, Some, None}
+use Rattle.std.proofs.Common.{◌≡◌, ◌∙◌, true, refl, sym, ap, subst, Option, None}
 use Rattle.std.specs.Prelude.{Result, Ok, Err, OnOk}
 use Rattle.edge_base.specs.outside.Below.{SameBelow}
 use Rattle.edge_store.specs.declared.fault.StoreFault.{StoreFault}
 use Rattle.edge_store.specs.declared.store.Store.{Ghosts as StoreGhosts}
 use Rattle.edge_store.specs.Calls.{Called, KeepsPoint, KeepsWorking, Reads}
-use Rattle.edge_store.specs.State.{StoreState, Told}
+use Rattle.edge_store.specs.State.{StoreState}
 use Rattle.edge_store.proofs.CallLaws.{same_below_twice}
 use Rattle.edge_model.specs.State.{State}
-use Rattle.edge_stands.specs.Session.{StandForState}
 use Rattle.edge_volume.specs.Stopped.{fault_in}
 use Rattle.edge_volume.specs.Volume.{StoreStands}
 use Rattle.edge_volume.specs.Parts.{EndsBy, KeepsBelow, Looks}

@@ -1,5 +1,5 @@
 -- Which descriptors are open after a place of the table is set.
-use Rattle.std.proofs.Common.{◌≡◌, ◌≢◌, ◌∙◌, ℕ, zero, suc, ◌==◌, Bool, true, false, cond, List, [], ◌∷◌, slice_set, is_some, refl, sym, ap, eqb-true, Option, Some, None}
+use Rattle.std.proofs.Common.{◌≡◌, ◌≢◌, ◌∙◌, ℕ, zero, suc, ◌==◌, Bool, true, false, cond, [], ◌∷◌, slice_set, is_some, refl, sym, ap, eqb-true, Option, Some, None}
 use Rattle.std.specs.Prelude.{slice_get}
 use Rattle.std.proofs.lemmas.Bool.{eqb-false}
 use Rattle.edge_base.specs.commands.Descriptors.{Descriptor, Descriptors, descriptor_at}

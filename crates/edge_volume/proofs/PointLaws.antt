@@ -1,20 +1,17 @@
 -- A point that a store takes, as a part of a command.
-use Rattle.std.proofs.Common.{◌≡◌, ◌∙◌, ℕ, ◌+◌, ◌-◌, ◌≤◌, Bool, true, false, List, [], ◌∷◌, length, refl, sym, ap, subst, arith, Option, Some, None}
+use Rattle.std.proofs.Common.{◌≡◌, ◌∙◌, ◌-◌, true, false, [], ◌∷◌, ap, arith, Some, None}
 use Rattle.std.specs.Prelude.{Result, Ok, Err}
-use Rattle.edge_base.specs.declared.geometry.Request.{Request}
 use Rattle.edge_store.specs.declared.fault.StoreFault.{StoreFault}
 use Rattle.edge_store.specs.declared.fault.StoreFault.TheVariants.{Damaged}
 use Rattle.edge_store.specs.Calls.{Called, TakesPoint}
 use Rattle.edge_store.specs.State.{StoreState}
 use Rattle.edge_store.specs.Told.{MeetsNone}
-use Rattle.edge_store.specs.View.{View}
 use Rattle.edge_model.specs.State.{State, point_taken}
-use Rattle.edge_image.specs.Opens.{StandsFor}
 use Rattle.edge_stands.specs.Session.{StandForState}
 use Rattle.edge_stands.proofs.SessionLaws.{after_point}
 use Rattle.edge_volume.specs.Stopped.{fault_in}
 use Rattle.edge_volume.specs.Volume.{StoreStands}
-use Rattle.edge_volume.specs.Parts.{StandsSome, TakesUpTo, Comes}
+use Rattle.edge_volume.specs.Parts.{TakesUpTo, Comes}
 
 pub takes_point : {T : Type 0} (a b : StoreState) (r : Result T StoreFault) → TakesPoint a b r → TakesUpTo 1 a b
 takes_point a b (Ok x) takes = let p = takes.points in record { never_falls = omega arith; at_most = omega arith }

@@ -1,6 +1,6 @@
 -- What a command answers and where it leads, by its plan: how parts of it meet the step.
-use Rattle.std.proofs.Common.{◌≡◌, ◌∙◌, ℕ, ◌++◌, Bool, true, false, List, [], ◌∷◌, refl, sym, ap, subst, append-nil, Option, Some, None}
-use Rattle.std.specs.Prelude.{Result, Ok, Err}
+use Rattle.std.proofs.Common.{◌≡◌, ◌∙◌, ℕ, ◌++◌, Bool, true, false, List, [], ◌∷◌, refl, sym, ap, append-nil, Option, Some, None}
+use Rattle.std.specs.Prelude.{Ok, Err}
 use Rattle.edge_base.specs.declared.geometry.Request.{Request}
 use Rattle.edge_base.specs.declared.refusal.Refusal.{Refusal}
 use Rattle.edge_base.specs.declared.refusal.Refusal.TheVariants.{NoSpace}
@@ -9,7 +9,7 @@ use Rattle.edge_store.specs.Calls.{KeepsPoint}
 use Rattle.edge_model.specs.declared.command.Answer.{Answer}
 use Rattle.edge_model.specs.Asked.{Asked, Reply, told_by}
 use Rattle.edge_model.specs.Laws.{last_or}
-use Rattle.edge_model.specs.State.{State, Plan, Edit, Outcome, Judged, judged, judged_by, judged_full, finished, outcome_of, carried_out, planned, ended, refused, point_taken, fits, gains_by_point}
+use Rattle.edge_model.specs.State.{State, Plan, Edit, Outcome, Judged, judged, judged_by, judged_full, finished, outcome_of, planned, ended, refused, point_taken, fits, gains_by_point}
 use Rattle.edge_model.specs.Step.{plan, step}
 use Rattle.edge_model.specs.Tree.{Tree}
 use Rattle.edge_volume.specs.declared.stop.Stop.TheVariants.{Refused, Fault}

@@ -1,5 +1,5 @@
 -- The one relation of every command. old and new are a volume as the command begins and after it, and out is the buffer after it.
-use Rattle.std.specs.Prelude.{◌≡◌, ℕ, false, List, Option, None, Result, Ok, Err}
+use Rattle.std.specs.Prelude.{◌≡◌, ℕ, false, List, None, Result, Ok, Err}
 use Rattle.edge_base.specs.declared.refusal.Refusal.{Refusal}
 use Rattle.edge_model.specs.declared.command.Answer.{Answer}
 use Rattle.edge_model.specs.declared.command.Answer.TheVariants as a

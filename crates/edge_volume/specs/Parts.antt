@@ -1,6 +1,6 @@
 -- What a part of a command does to a store, with the fault that ended it, if there was one. old and new are the store as the part begins
 -- and after it.
-use Rattle.std.specs.Prelude.{◌≡◌, ◌≤◌, ℕ, ◌+◌, ◌-◌, ◌∷◌, false, is_none, is_some, List, length, Option, Some, None}
+use Rattle.std.specs.Prelude.{◌≡◌, ◌≤◌, ℕ, ◌+◌, ◌-◌, ◌∷◌, is_none, is_some, List, length, Option, Some, None}
 use Rattle.edge_base.specs.outside.Below.{SameBelow}
 use Rattle.edge_base.specs.outside.Faults.{Because}
 use Rattle.edge_base.specs.declared.damage.Damage.{Damage}

@@ -3,8 +3,10 @@
 //! and the one relation of every command. `proofs/` has how parts follow one another.
 #![tactic(auto)]
 
+mod node;
 mod point;
 mod stop;
 
+pub use node::node_head;
 pub use point::take_point;
 pub use stop::Stop;
