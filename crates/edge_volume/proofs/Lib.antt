@@ -6,3 +6,4 @@ pub mod StepLaws
 pub mod DidLaws
 pub mod OpenLaws
 pub mod NodeLaws
+pub mod ChangeLaws
