@@ -1,34 +1,31 @@
 -- What a command did, in the words of `Ask`.
-use Rattle.std.proofs.Common.{◌≡◌, ◌∙◌, ℕ, ◌+◌, ◌-◌, ◌≤◌, ◌<◌, Bool, true, false, List, [], ◌∷◌, length, refl, sym, ap, subst, arith, Option, Some, None}
-use Rattle.std.specs.Prelude.{Result, Ok, Err, All, is_some}
+use Rattle.std.proofs.Common.{◌≡◌, ℕ, ◌+◌, ◌-◌, List, ◌∷◌, refl, sym, ap, subst, Option, Some, None}
+use Rattle.std.specs.Prelude.{Result, All, is_some}
 use Rattle.std.proofs.lemmas.List.Elements.{All-cons, All-get_or}
 use Rattle.edge_base.specs.outside.Below.{Origin}
 use Rattle.edge_base.specs.declared.damage.Damage.{Damage}
 use Rattle.edge_base.specs.declared.geometry.Request.{Request}
 use Rattle.edge_base.specs.layout.Places.{IsGeometry}
-use Rattle.edge_store.specs.State.{StoreState}
 use Rattle.edge_store.specs.View.{View}
 use Rattle.edge_store.specs.declared.fault.StoreFault.{StoreFault}
 use Rattle.edge_store.specs.declared.fault.StoreFault.TheVariants as store
-use Rattle.edge_model.specs.declared.ask.AskFault.{AskFault}
 use Rattle.edge_model.specs.declared.ask.AskFault.TheVariants as ask
 use Rattle.edge_model.specs.declared.command.Answer.{Answer}
-use Rattle.edge_model.specs.Asked.{Asked, told_by}
-use Rattle.edge_model.specs.Asking.{IsAt, HasCome, IsInLimits, tree_at}
+use Rattle.edge_model.specs.Asked.{Asked}
+use Rattle.edge_model.specs.Asking.{IsAt, IsInLimits, tree_at}
 use Rattle.edge_model.specs.Bytes.{IsOfBytes}
 use Rattle.edge_model.specs.Rules.{IsTree}
 use Rattle.edge_model.specs.State.{State}
 use Rattle.edge_model.specs.Step.{step}
 use Rattle.edge_model.specs.Tree.{Tree}
-use Rattle.edge_image.specs.Opens.{StandsFor}
 use Rattle.edge_steps.specs.Session.{IsSession}
 use Rattle.edge_steps.proofs.SessionLaws.{step_session}
 use Rattle.edge_steps.proofs.TreeLaws.{step_points}
 use Rattle.edge_volume.specs.declared.stop.Stop.{Stop}
 use Rattle.edge_volume.specs.Stopped.{fault_of}
 use Rattle.edge_volume.specs.Did.{Did}
-use Rattle.edge_volume.specs.Parts.{StandsSome, IsAmong, Comes, IsOfNoDamage}
-use Rattle.edge_volume.specs.Volume.{VolumeState, StoreStands, VolumeStands, IsCommitted, IsUnderWay, IsSomeOfTree, request_of}
+use Rattle.edge_volume.specs.Parts.{StandsSome, IsAmong, IsOfNoDamage}
+use Rattle.edge_volume.specs.Volume.{VolumeState, VolumeStands, IsCommitted, IsUnderWay, IsSomeOfTree, request_of}
 use Rattle.edge_calls.specs.State.{as_ask}
 
 -- ---- the trees of points are trees

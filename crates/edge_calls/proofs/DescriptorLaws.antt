@@ -1,6 +1,6 @@
 -- What close, seek, fsync and rewind do, at each of their ends.
-use Rattle.std.proofs.Common.{◌≡◌, ◌∙◌, ℕ, ◌<◌, ◌≤◌, nat_lt, not, Bool, true, false, List, slice_set, is_some, refl, sym, ap, subst, arith, Option, Some, None}
-use Rattle.std.specs.Prelude.{Result, Ok, Err, IsSome}
+use Rattle.std.proofs.Common.{◌≡◌, ◌∙◌, ℕ, ◌<◌, ◌≤◌, not, Bool, true, false, List, slice_set, is_some, refl, sym, ap, Option, Some, None}
+use Rattle.std.specs.Prelude.{Ok, Err, IsSome}
 use Rattle.std.proofs.lemmas.Bool.{lt-ltb, le-ltb}
 use Rattle.edge_base.specs.commands.Descriptors.{Descriptor, Descriptors, descriptor_at}
 use Rattle.edge_base.specs.commands.Events as event
@@ -14,15 +14,15 @@ use Rattle.edge_model.specs.declared.command.Answer.TheVariants as a
 use Rattle.edge_model.specs.Asked as command
 use Rattle.edge_model.specs.Asking.{HasClosed, with_open}
 use Rattle.edge_model.specs.Open.{open_at, file_at, directory_at, moved}
-use Rattle.edge_model.specs.State.{State, Plan, keeps, first_state}
+use Rattle.edge_model.specs.State.{State, keeps, first_state}
 use Rattle.edge_model.specs.Step.{plan}
 use Rattle.edge_volume.specs.declared.stop.Stop.TheVariants.{Refused, Fault}
 use Rattle.edge_volume.specs.Volume.{VolumeState, StoreStands, VolumeStands, request_of, opens_of, point_after, trees_after, points_due}
 use Rattle.edge_volume.specs.Parts.{EndsBy, TakesUpTo, Comes}
 use Rattle.edge_volume.specs.Did.{Did}
-use Rattle.edge_volume.proofs.DidLaws.{mask_kept, Settles, did_refused_here, did_here, did_pointed, did_pointed_fault}
+use Rattle.edge_volume.proofs.DidLaws.{mask_kept, did_refused_here, did_here, did_pointed, did_pointed_fault}
 use Rattle.edge_volume.proofs.OpenLaws.{set_none, set_opens, moved_opens, same_opens}
-use Rattle.edge_calls.proofs.PlanLaws.{close_refused, close_plan, fsync_refused, fsync_plan, seek_refused, seek_invalid, seek_plan, rewind_refused, rewind_plan, none_open_at, some_open_at, open_is_at}
+use Rattle.edge_calls.proofs.PlanLaws.{close_refused, close_plan, fsync_refused, fsync_plan, seek_refused, seek_invalid, seek_plan, rewind_refused, rewind_plan, none_open_at, some_open_at}
 
 -- ---- descriptors
 

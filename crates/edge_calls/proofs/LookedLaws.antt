@@ -1,5 +1,5 @@
 -- A command that was answered after some reading.
-use Rattle.std.proofs.Common.{◌≡◌, ℕ, false, List, refl, None}
+use Rattle.std.proofs.Common.{ℕ, false, List, refl, None}
 use Rattle.std.specs.Prelude.{Ok}
 use Rattle.edge_store.specs.Calls.{KeepsPoint, KeepsWorking}
 use Rattle.edge_model.specs.declared.command.Answer.{Answer}

@@ -1,7 +1,7 @@
 -- What commands plan that name a descriptor and change no tree.
-use Rattle.std.proofs.Common.{◌≡◌, ◌∙◌, ℕ, nat_lt, Bool, true, false, refl, sym, ap, slice_set, Option, Some, None}
-use Rattle.std.specs.Prelude.{Result, Ok, Err}
-use Rattle.edge_base.specs.commands.Descriptors.{Descriptor, Descriptors, descriptor_at}
+use Rattle.std.proofs.Common.{◌≡◌, ℕ, nat_lt, true, false, refl, slice_set, Option, Some, None}
+use Rattle.std.specs.Prelude.{Ok, Err}
+use Rattle.edge_base.specs.commands.Descriptors.{Descriptor, descriptor_at}
 use Rattle.edge_base.specs.commands.Events as event
 use Rattle.edge_base.specs.commands.Refusals.{or_refuse}
 use Rattle.edge_base.specs.declared.geometry.Request.{Request}
@@ -10,7 +10,7 @@ use Rattle.edge_base.specs.declared.refusal.Refusal.TheVariants as refusal
 use Rattle.edge_base.specs.layout.Places.{max_size_of}
 use Rattle.edge_model.specs.Asked as command
 use Rattle.edge_model.specs.Open.{open_at, file_at, directory_at, moved, plan_close, plan_seek, plan_fsync, plan_rewind}
-use Rattle.edge_model.specs.State.{State, Plan, keeps}
+use Rattle.edge_model.specs.State.{State, keeps}
 use Rattle.edge_model.specs.Step.{plan, plan_set_mask}
 
 module _ (g : Request) (s : State) (h : ℕ) where

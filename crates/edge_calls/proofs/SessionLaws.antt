@@ -1,26 +1,23 @@
 -- What space, mask, set_mask and transact do, at each of their ends.
-use Rattle.std.proofs.Common.{◌≡◌, ◌∙◌, ℕ, ◌<◌, ◌≤◌, nat_lt, inl, inr, Bool, true, false, cond, List, refl, sym, ap, subst, arith, Option, Some, None}
-use Rattle.std.specs.Prelude.{Result, Ok, Err}
+use Rattle.std.proofs.Common.{◌≡◌, ◌∙◌, ℕ, ◌<◌, ◌≤◌, nat_lt, inl, inr, true, false, List, refl, sym, ap, Some, None}
+use Rattle.std.specs.Prelude.{Ok, Err}
 use Rattle.std.proofs.lemmas.Bool.{cases_lt, lt-ltb, le-ltb}
 use Rattle.edge_base.specs.commands.Events as event
-use Rattle.edge_base.specs.declared.geometry.Request.{Request}
 use Rattle.edge_base.specs.declared.refusal.Refusal.TheVariants as refusal
 use Rattle.edge_base.specs.layout.Places.{allocable_of}
 use Rattle.edge_store.specs.declared.fault.StoreFault.{StoreFault}
 use Rattle.edge_store.specs.View.{free_now, free_after, free_inodes}
-use Rattle.edge_model.specs.declared.command.Answer.{Answer}
 use Rattle.edge_model.specs.declared.command.Answer.TheVariants as a
 use Rattle.edge_model.specs.declared.command.Room.{Room}
 use Rattle.edge_model.specs.Asked as command
-use Rattle.edge_model.specs.Asking.{AnswersMask, mask_after}
-use Rattle.edge_model.specs.State.{State, Plan, keeps}
+use Rattle.edge_model.specs.State.{State, keeps}
 use Rattle.edge_model.specs.Step.{room_of}
 use Rattle.edge_stands.proofs.SpaceLaws.{space_is}
 use Rattle.edge_volume.specs.declared.stop.Stop.TheVariants.{Refused, Fault}
 use Rattle.edge_volume.specs.Volume.{VolumeState, StoreStands, VolumeStands, request_of, opens_of, point_after, trees_after}
 use Rattle.edge_volume.specs.Parts.{EndsBy, TakesUpTo, Comes}
 use Rattle.edge_volume.specs.Did.{Did}
-use Rattle.edge_volume.proofs.DidLaws.{mask_kept, Settles, did_refused_here, did_here, did_pointed, did_pointed_fault}
+use Rattle.edge_volume.proofs.DidLaws.{mask_kept, did_refused_here, did_here, did_pointed, did_pointed_fault}
 use Rattle.edge_calls.proofs.PlanLaws.{set_mask_refused, set_mask_plan}
 
 -- ---- space

@@ -1,7 +1,7 @@
 -- What fstat does, at each of its ends.
-use Rattle.std.proofs.Common.{◌≡◌, ◌∙◌, ℕ, true, false, List, is_some, refl, sym, ap, subst, Option, Some, None}
-use Rattle.std.specs.Prelude.{Result, Ok, Err}
-use Rattle.edge_base.specs.commands.Descriptors.{Descriptor, descriptor_at}
+use Rattle.std.proofs.Common.{◌≡◌, ◌∙◌, ℕ, true, false, List, is_some, refl, sym, ap, Option, Some, None}
+use Rattle.std.specs.Prelude.{Ok, Err}
+use Rattle.edge_base.specs.commands.Descriptors.{Descriptor}
 use Rattle.edge_base.specs.declared.geometry.Request.{Request}
 use Rattle.edge_base.specs.declared.node.Head.{Head}
 use Rattle.edge_base.specs.declared.refusal.Refusal.{Refusal}
@@ -9,21 +9,20 @@ use Rattle.edge_base.specs.declared.refusal.Refusal.TheVariants as refusal
 use Rattle.edge_base.specs.tree.Nodes.{Node}
 use Rattle.edge_store.specs.declared.fault.StoreFault.{StoreFault}
 use Rattle.edge_store.specs.Calls.{KeepsPoint, KeepsWorking}
-use Rattle.edge_model.specs.declared.command.Answer.{Answer}
 use Rattle.edge_model.specs.declared.command.Answer.TheVariants as a
 use Rattle.edge_model.specs.declared.command.Status.{Status}
 use Rattle.edge_model.specs.Asked as command
 use Rattle.edge_model.specs.Open.{open_at}
-use Rattle.edge_model.specs.State.{State, Plan, keeps}
+use Rattle.edge_model.specs.State.{State, keeps}
 use Rattle.edge_model.specs.Step.{plan, plan_fstat, status_of}
-use Rattle.edge_model.specs.Tree.{Tree, node_at}
+use Rattle.edge_model.specs.Tree.{Tree}
 use Rattle.edge_image.specs.Opens.{head_of_node}
 use Rattle.edge_volume.specs.declared.stop.Stop.TheVariants.{Refused, Fault}
-use Rattle.edge_volume.specs.Volume.{VolumeState, StoreStands, VolumeStands, request_of, opens_of}
+use Rattle.edge_volume.specs.Volume.{VolumeState, StoreStands, VolumeStands, request_of}
 use Rattle.edge_volume.specs.Parts.{EndsBy, IsOfNoDamage}
 use Rattle.edge_volume.specs.Nodes.{OnTree, head_at, head_of_some}
 use Rattle.edge_volume.specs.Did.{Did}
-use Rattle.edge_volume.proofs.DidLaws.{mask_kept, Settles, did_refused_here, did_refused, did_fault}
+use Rattle.edge_volume.proofs.DidLaws.{mask_kept, did_refused_here, did_refused, did_fault}
 use Rattle.edge_volume.proofs.OpenLaws.{same_opens}
 use Rattle.edge_calls.proofs.LookedLaws.{did_looked}
 use Rattle.edge_calls.proofs.PlanLaws.{open_is_at}

@@ -1,4 +1,4 @@
-use Rattle.std.proofs.Common.{◌≡◌, sym, ap, subst}
+use Rattle.std.proofs.Common.{sym, ap, subst}
 use Rattle.edge_base.specs.commands.Descriptors.{Descriptors}
 use Rattle.edge_model.specs.State.{first_state}
 use Rattle.edge_volume.specs.Volume.{VolumeState, VolumeStands}

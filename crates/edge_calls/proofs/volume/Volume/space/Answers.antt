@@ -1,12 +1,6 @@
-use Rattle.std.proofs.Common.{◌≡◌, ◌∙◌, refl, sym, ap, subst, Some}
-use Rattle.std.specs.Prelude.{Err, Ok}
-use Rattle.std.proofs.lemmas.Result.{err_from_is_err_and}
-use Rattle.edge_base.specs.commands.Descriptors.{descriptor_at}
-use Rattle.edge_base.specs.commands.Events as event
+use Rattle.std.proofs.Common.{◌∙◌, ap}
 use Rattle.edge_base.specs.declared.geometry.Request.{Request}
 use Rattle.edge_base.specs.layout.Places.{allocable_of}
-use Rattle.edge_model.specs.Asked as command
-use Rattle.edge_volume.specs.Did.{Did}
 use Rattle.edge_calls.specs.State.{volume_of}
 use Rattle.edge_calls.proofs.SessionLaws.{space_told}
 use Rattle.edge_calls.proofs.volume.Volume.space.Goals as goal

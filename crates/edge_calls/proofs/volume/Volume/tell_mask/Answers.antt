@@ -1,9 +1,5 @@
-use Rattle.std.proofs.Common.{◌≡◌, ◌∙◌, ℕ, refl, sym, ap, subst, Some}
-use Rattle.std.specs.Prelude.{Err, Ok}
-use Rattle.std.proofs.lemmas.Result.{err_from_is_err_and}
-use Rattle.edge_base.specs.commands.Descriptors.{descriptor_at}
-use Rattle.edge_base.specs.commands.Events as event
-use Rattle.edge_handles.specs.Table.{descriptor_of}
+use Rattle.std.proofs.Common.{◌∙◌, ℕ, sym, subst}
+use Rattle.std.specs.Prelude.{Ok}
 use Rattle.edge_model.specs.declared.command.Answer.TheVariants as a
 use Rattle.edge_model.specs.Asked as command
 use Rattle.edge_volume.specs.Did.{Did}

@@ -1,9 +1,6 @@
-use Rattle.std.proofs.Common.{◌≡◌, ◌∙◌, refl, sym, ap, subst, Some}
-use Rattle.std.specs.Prelude.{Err, Ok}
+use Rattle.std.proofs.Common.{◌∙◌, refl, sym, ap, subst}
+use Rattle.std.specs.Prelude.{Err}
 use Rattle.std.proofs.lemmas.Result.{err_from_is_err_and}
-use Rattle.edge_base.specs.commands.Descriptors.{descriptor_at}
-use Rattle.edge_base.specs.commands.Events as event
-use Rattle.edge_handles.specs.Table.{descriptor_of}
 use Rattle.edge_model.specs.Asked as command
 use Rattle.edge_volume.specs.Did.{Did}
 use Rattle.edge_calls.specs.State.{volume_of}
