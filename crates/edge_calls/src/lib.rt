@@ -1,0 +1,11 @@
+//! Commands over any store: `Volume` answers each of them as the step of a plain tree of files
+//! does. A command is a method, in the file of its kind; each ensures the one relation `Did`.
+#![tactic(auto)]
+
+mod descriptors;
+mod handles;
+mod session;
+mod status;
+mod volume;
+
+pub use volume::Volume;

@@ -1,0 +1,5 @@
+pub mod Stopped
+pub mod Volume
+pub mod Parts
+pub mod Did
+pub mod Nodes
