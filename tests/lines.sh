@@ -5,7 +5,7 @@ set -eu
 cd "$(dirname "$0")/.."
 
 long() {
-    find crates -path "$1" -type f | sort | python3 -c '
+    find crates -name out -prune -o -path "$1" -type f -print | sort | python3 -c '
 import sys
 most = int(sys.argv[1])
 for path in sys.stdin.read().split():
