@@ -254,7 +254,7 @@ pub trait Store {
         ensures undamaged { MeetsNone (state self.old) result }
         ensures is_new { IfOk result (IsNewOf (state self.old) b) };
 
-    /// Takes a point: the committed view becomes the working one.
+    /// Takes a point: the working view becomes the committed one.
     fn transact(&mut self) -> Result<(), StoreFault>
         requires live { IsLive (state self.old) }
         requires points { (state self.old).points < 2 ^ 63 - 1 }
