@@ -102,7 +102,7 @@ module _ (g : Request) (v w : View) (t : Tree) (links : ℕ → ℕ) (n : ℕ) (
 
 -- ---- inodes dropped
 
-same_links : (links : ℕ → ℕ) (n : ℕ) → with_links links n (links n) ≡ links
+pub same_links : (links : ℕ → ℕ) (n : ℕ) → with_links links n (links n) ≡ links
 same_links links n = λ i x. each x i
   where
     each : (x : ℕ) → with_links links n (links n) x ≡ links x
