@@ -29,7 +29,8 @@ pub enum AskFault {
 /// which tree the last point was, and of which one the point that a fault cut short, where `torn`
 /// says that there is such a one. `may_hold` and `is_sure` are the candidates of the disk below,
 /// and `is_clean` says that no change waits to be written to it. `guarded` is what was promised of
-/// a cut as the object was made, and no call takes it back.
+/// a cut as the object was made, and no call takes it back. `is_damage` says which damage there is
+/// where the object knows what the disk below holds.
 pub trait Ask {
     ghost origin: { Self → Origin };
 
@@ -61,6 +62,8 @@ pub trait Ask {
 
     ghost guarded: { Self → Type 0 };
 
+    ghost is_damage: { Self → Damage → Type 0 };
+
     /// Whether it may be asked: no call has answered a fault.
     fn is_live(&self) -> bool
         ensures { result ≡ live self.now };
@@ -82,6 +85,7 @@ pub trait Ask {
             (faults self.old) (faults self.new) (damage self.old) (damage self.new) }
         ensures undamaged { (s : State) → stands_for self.old s → (d : Damage)
             → result ≡ Err (Damaged d) → ⊥ }
+        ensures there { (d : Damage) → result ≡ Err (Damaged d) → is_damage self.new d }
         ensures never_falls { reached self.old ≤ reached self.new }
         ensures two_points { reached self.new ≤ reached self.old + 2 }
         ensures guarded { guarded self.old → guarded self.new }
@@ -121,6 +125,7 @@ pub trait Ask {
             (faults self.old) (faults self.new) (damage self.old) (damage self.new) }
         ensures undamaged { (s : State) → stands_for self.old s → (d : Damage)
             → result ≡ Err (Damaged d) → ⊥ }
+        ensures there { (d : Damage) → result ≡ Err (Damaged d) → is_damage self.new d }
         ensures guarded { guarded self.old → guarded self.new }
         ensures never_falls { reached self.old ≤ reached self.new }
         ensures one_point { reached self.new ≤ reached self.old + closing_points (mask self.old) }
@@ -150,7 +155,8 @@ pub trait Ask {
     ghost opens_are_told: { (x : Self) (s : State) (h : ℕ) → live x ≡ true → stands_for x s
         → opens x h ≡ is_some (descriptor_at s.descriptors h) };
 
-    ghost few_are_open: { (x : Self) (h : ℕ) → opens x h ≡ true → h < most_open };
+    ghost sixteen_places: { (x : Self) (s : State) → stands_for x s
+        → length s.descriptors ≡ most_open };
 
     // The last point was of one tree, and so is one under way.
     ghost one_committed: { (x : Self) (t u : Tree) → committed x t → committed x u → t ≡ u };
