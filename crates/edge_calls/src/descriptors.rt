@@ -36,6 +36,7 @@ impl<S: Store> Volume<S> {
     /// Sets the position of a file.
     pub(crate) fn seek(&mut self, h: u32, to: u64) -> Result<Answer, Stop>
         requires live { IsLive (S.state self.old.store) }
+        ensures store { self.new.store ≡ self.old.store }
         ensures did { (out : List ℕ) → Did (command.seek h to) result
             (volume_of S.Store self.old) (volume_of S.Store self.new) out }
         ensures below { KeepsBelow S.Store (fault_of result) self.old.store self.new.store }
@@ -63,6 +64,7 @@ impl<S: Store> Volume<S> {
     /// Goes back to the first slot of a directory.
     pub(crate) fn rewind(&mut self, h: u32) -> Result<Answer, Stop>
         requires live { IsLive (S.state self.old.store) }
+        ensures store { self.new.store ≡ self.old.store }
         ensures did { (out : List ℕ) → Did (command.rewind h) result
             (volume_of S.Store self.old) (volume_of S.Store self.new) out }
         ensures below { KeepsBelow S.Store (fault_of result) self.old.store self.new.store }

@@ -38,9 +38,10 @@ impl<S: Store> Volume<S> {
         Answer::Number(u64::from(self.mask.number()))
     }
 
-    /// Sets the events after which points are taken. The store is left as it is.
+    /// Sets the events after which points are taken.
     pub(crate) fn set_mask(&mut self, events: u32) -> Result<Answer, Stop>
         requires live { IsLive (S.state self.old.store) }
+        ensures store { self.new.store ≡ self.old.store }
         ensures did { (out : List ℕ) → Did (command.set_mask events) result
             (volume_of S.Store self.old) (volume_of S.Store self.new) out }
     {

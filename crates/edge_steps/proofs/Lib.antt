@@ -7,6 +7,7 @@ pub mod MakeLaws
 pub mod DropLaws
 pub mod FileLaws
 pub mod OpenLaws
+pub mod PlaceLaws
 pub mod PlanLaws
 pub mod NameLaws
 pub mod MoveLaws

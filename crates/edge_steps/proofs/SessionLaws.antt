@@ -1,5 +1,5 @@
 -- All rules of a session's state, from the mounting on.
-use Rattle.std.proofs.Common.{Bool, true, false, cond, List, [], ◌∷◌, Option, Some, None}
+use Rattle.std.proofs.Common.{◌∙◌, refl, Bool, true, false, cond, List, [], ◌∷◌, Option, Some, None}
 use Rattle.std.specs.List.{All, fold}
 use Rattle.std.proofs.lemmas.Bool.{false≢true}
 use Rattle.std.proofs.lemmas.List.Elements.{All-head, All-tail}
@@ -16,6 +16,7 @@ use Rattle.edge_model.specs.Bytes.{IsOfBytes, IsLineOfBytes}
 use Rattle.edge_steps.specs.Room.{LeavesRoom}
 use Rattle.edge_steps.specs.Session.{IsSession}
 use Rattle.edge_steps.proofs.TreeLaws.{step_trees, point_trees, first_trees}
+use Rattle.edge_steps.proofs.PlaceLaws.{step_places}
 use Rattle.edge_steps.proofs.RoomLaws.{step_room, point_room}
 
 pub first_session : (g : Request) (t : Tree) → IsTree g t → LeavesRoom g t → IsSession g (first_state t)
@@ -23,6 +24,7 @@ first_session g t tree room = record {
   trees = first_trees g t tree;
   dirty = record { within = λ p h. absurd (false≢true h); upwards = λ p q h up. absurd (false≢true h); clean = λ p there clean. there };
   room = record { tree = room; committed = room };
+  places = refl;
 }
 
 pub step_session : (g : Request) (s : State) (c : Asked) → IsGeometry g → IsOfBytes c → IsSession g s → IsSession g (step g s c).state
@@ -30,10 +32,11 @@ step_session g s c is bytes session = record {
   trees = step_trees g s c is bytes session.trees;
   dirty = step_sound g s c session.dirty;
   room = step_room g s c session.dirty session.room;
+  places = step_places g s c ∙ session.places;
 }
 
 pub point_session : (g : Request) (s : State) → IsSession g s → IsSession g (point_taken s)
-point_session g s session = record { trees = point_trees g s session.trees; dirty = point_sound g s; room = point_room g s session.room }
+point_session g s session = record { trees = point_trees g s session.trees; dirty = point_sound g s; room = point_room g s session.room; places = session.places }
 
 closes : (g : Request) (point : Bool) (s : State) → IsSession g s → IsSession g (cond point (point_taken s) s)
 closes g true s session = point_session g s session

@@ -1,4 +1,6 @@
 -- All rules of a session's state.
+use Rattle.std.specs.Prelude.{◌≡◌, length}
+use Rattle.edge_base.specs.commands.Descriptors.{most_open}
 use Rattle.edge_base.specs.declared.geometry.Request.{Request}
 use Rattle.edge_model.specs.Laws.{IsDirtySound}
 use Rattle.edge_model.specs.State.{State}
@@ -12,3 +14,5 @@ pub record IsSession (g : Request) (s : State) : Type 0 where
   pub dirty : IsDirtySound g s
   -- each of its trees leaves three blocks free
   pub room : HasRoom g s
+  -- the table of descriptors has its places
+  pub places : length s.descriptors ≡ most_open

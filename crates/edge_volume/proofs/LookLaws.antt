@@ -4,8 +4,8 @@ use Rattle.std.specs.Prelude.{Result, Ok, Err, OnOk}
 use Rattle.edge_base.specs.outside.Below.{SameBelow}
 use Rattle.edge_store.specs.declared.fault.StoreFault.{StoreFault}
 use Rattle.edge_store.specs.declared.store.Store.{Ghosts as StoreGhosts}
-use Rattle.edge_store.specs.Calls.{Called, KeepsPoint, KeepsWorking, Reads}
-use Rattle.edge_store.specs.State.{StoreState}
+use Rattle.edge_store.specs.Calls.{Called, KeepsPoint, KeepsWorking, Reads, TellsDamage}
+use Rattle.edge_store.specs.State.{StoreState, Told}
 use Rattle.edge_store.proofs.CallLaws.{same_below_twice}
 use Rattle.edge_model.specs.State.{State}
 use Rattle.edge_volume.specs.Stopped.{fault_in}
@@ -35,11 +35,11 @@ module _ {A : Type 0} (S : StoreGhosts A) where
   -- the clauses of a call that only reads
   pub looks_of_call : {T : Type 0} (old new : A) (r : Result T StoreFault) → Called (S.state old) (S.state new) r → KeepsPoint (S.state old) (S.state new)
       → Reads (S.state old) (S.state new) r → (S.is_clean old → SameBelow (S.may_hold old) (S.may_hold new) (S.is_sure old) (S.is_sure new))
-      → (S.is_clean old → OnOk r (S.is_clean new)) → Looks S (fault_in r) old new
-  looks_of_call old new (Ok x) called point reads below clean =
-      record { ends = ends_of_call _ _ (Ok x) called; point = point; reads = λ e. reads; below = record { candidates = below; clean = λ h e. clean h } }
-  looks_of_call old new (Err fault) called point reads below clean =
-      record { ends = ends_of_call _ _ (Err fault) called; point = point; reads = λ e. absurd (cc); below = record { candidates = below; clean = λ h e. absurd (cc) } }
+      → (S.is_clean old → OnOk r (S.is_clean new)) → (Told (S.state old) → TellsDamage (S.state new) r) → Looks S (fault_in r) old new
+  looks_of_call old new (Ok x) called point reads below clean tells =
+      record { ends = ends_of_call _ _ (Ok x) called tells; point = point; reads = λ e. reads; below = record { candidates = below; clean = λ h e. clean h } }
+  looks_of_call old new (Err fault) called point reads below clean tells =
+      record { ends = ends_of_call _ _ (Err fault) called tells; point = point; reads = λ e. absurd (cc); below = record { candidates = below; clean = λ h e. absurd (cc) } }
 
   pub below_same : (fault : Option StoreFault) (x y : A) → y ≡ x → KeepsBelow S fault x y
   below_same fault x y same = subst (KeepsBelow S fault x) (sym same) (record {

@@ -9,7 +9,7 @@ use Rattle.edge_store.specs.declared.fault.StoreFault.{StoreFault}
 use Rattle.edge_store.specs.declared.fault.StoreFault.TheVariants.{Damaged}
 use Rattle.edge_store.specs.declared.store.Store.{Ghosts as StoreGhosts}
 use Rattle.edge_store.specs.Calls.{KeepsPoint, KeepsWorking, damage_of}
-use Rattle.edge_store.specs.State.{StoreState}
+use Rattle.edge_store.specs.State.{StoreState, Told, HasDamage}
 use Rattle.edge_store.specs.View.{View}
 use Rattle.edge_model.specs.Asking.{IsAt}
 use Rattle.edge_model.specs.State.{State}
@@ -24,12 +24,14 @@ abbrev pub CauseOf : Option StoreFault → StoreState → StoreState → Type 0
 CauseOf None old new = (new.faults ≡ old.faults) × (new.damage ≡ old.damage)
 CauseOf (Some fault) old new = Because old.faults new.faults old.damage new.damage (damage_of fault)
 
--- What the store was made with stays, a fault ends it and has its cause, and what was promised of a cut stays promised.
+-- What the store was made with stays, a fault ends it and has its cause, damage that is told is there, and what was promised of a cut stays
+-- promised.
 pub record EndsBy (fault : Option StoreFault) (old new : StoreState) : Type 0 where
   pub origin : new.origin ≡ old.origin
   pub live : new.live ≡ is_none fault
   pub later : old.faults ≤ new.faults
   pub cause : CauseOf fault old new
+  pub there : (damage : Damage) → fault ≡ Some (Damaged damage) → Told old → HasDamage new damage
   pub guarded : old.guarded → new.guarded
 
 -- Points were taken, at most so many.

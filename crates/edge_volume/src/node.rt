@@ -4,7 +4,7 @@ ghost use Rattle.edge_model.specs.State.{State};
 ghost use Rattle.edge_volume.specs.Stopped.{fault_in};
 ghost use Rattle.edge_volume.specs.Volume.{StoreStands};
 ghost use Rattle.edge_volume.specs.Parts.{Looks, IsOfNoDamage};
-ghost use Rattle.edge_volume.specs.Nodes.{OnTree, IsNodeOf, head_at};
+ghost use Rattle.edge_volume.specs.Nodes.{OnTree, IsNoNode, IsNodeOf, head_at};
 
 use edge_base::Head;
 use edge_store::{Store, StoreFault};
@@ -15,6 +15,7 @@ pub fn node_head<S: Store>(s: &mut S, n: u32) -> Result<Option<Head>, StoreFault
     ensures looks { Looks S.Store (fault_in result) s.old s.new }
     ensures undamaged { (z : State) → StoreStands (S.state s.old) z
         → IsOfNoDamage (fault_in result) }
+    ensures absent { IfOk result (λ found. IsNoNode (S.state s.old) n found) }
     ensures node { IfOk result (λ found. IfSome found (IsNodeOf (S.state s.old) n)) }
     ensures head { IfOk result (λ found.
         OnTree (S.state s.old) (λ t. found ≡ head_at (S.state s.old).origin.request t n)) }

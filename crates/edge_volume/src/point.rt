@@ -1,4 +1,4 @@
-ghost use Rattle.std.specs.Prelude.{◌≡◌, ◌<◌, ◌-◌, ◌^◌, ◌+◌, false, OnOk};
+ghost use Rattle.std.specs.Prelude.{◌≡◌, ◌<◌, ◌-◌, ◌^◌, ◌+◌, false, OnOk, OnErr};
 ghost use Rattle.edge_store.specs.State.{IsLive};
 ghost use Rattle.edge_model.specs.State.{State};
 ghost use Rattle.edge_volume.specs.Stopped.{fault_in};
@@ -15,6 +15,7 @@ pub fn take_point<S: Store>(s: &mut S, due: bool) -> Result<(), StoreFault>
     ensures most { TakesUpTo (points_due due) (S.state s.old) (S.state s.new) }
     ensures taken { OnOk result
         ((S.state s.new).points ≡ (S.state s.old).points + points_due due) }
+    ensures failed { OnErr result ((S.state s.new).points ≡ (S.state s.old).points) }
     ensures none_due { due ≡ false → s.new ≡ s.old }
     ensures comes { (z : State) → StoreStands (S.state s.old) z
         → Comes (fault_in result) (S.state s.old) (S.state s.new) z
