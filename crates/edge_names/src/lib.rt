@@ -1,0 +1,9 @@
+//! Names put into directories, over a store that stands for a tree of files: what is left of a
+//! command once it is known that nothing refuses it and that there is room.
+#![tactic(auto)]
+
+mod link;
+mod make;
+
+pub use link::add_name;
+pub use make::make_node;
