@@ -37,10 +37,10 @@ length_filled slots after k e trim trim_after near set =
 div_less : (n a b : ℕ) → 0 < n → a ≤ b → a / n ≤ b / n
 div_less n a b some less = let low = div-mul-le_self a n in (le-div_iff_mul-le some).1 (omega (arith, low, less))
 
-pieces_less : (n a b : ℕ) → 0 < n → a ≤ b → pieces n a ≤ pieces n b
+pub pieces_less : (n a b : ℕ) → 0 < n → a ≤ b → pieces n a ≤ pieces n b
 pieces_less n a b some less = div_less n (a + (n - 1)) (b + (n - 1)) some (omega (arith, less))
 
-pieces_with : (n k : ℕ) → 0 < n → pieces n (k + 1) ≡ k / n + 1
+pub pieces_with : (n k : ℕ) → 0 < n → pieces n (k + 1) ≡ k / n + 1
 pieces_with n k some = ap (λ (x : ℕ). x / n) (let e : k + 1 + (n - 1) ≡ k + 1 * n = omega arith in e) ∙ add-mul-div_right k 1 some
 
 pub pieces_near : (n k count : ℕ) → 0 < n → k ≤ count → k / n ≤ pieces n count

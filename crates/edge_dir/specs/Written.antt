@@ -12,6 +12,7 @@ use Rattle.edge_store.specs.Placed.{HasNode}
 use Rattle.edge_store.specs.declared.fault.StoreFault.{StoreFault}
 use Rattle.edge_store.specs.State.{StoreState, Told}
 use Rattle.edge_store.specs.View.{View, head_of_inode}
+use Rattle.edge_tree.specs.Own.{IsNodeShaped, UntangledIf}
 use Rattle.edge_slots.specs.Slot.{entry_of}
 use Rattle.edge_file.specs.Bytes.{with_bytes}
 use Rattle.edge_file.specs.Writing.{GrowsTo, RoomForBytes}
@@ -47,6 +48,10 @@ BecomesSlot g old new slot = (q : ℕ) → q < 4 + g.name_max → slice_index (s
 -- nothing is told of a directory that keeps its rules, where as many blocks are free as positions on the chain of a slot's block are not new
 abbrev pub NeverWithRoom : {T : Type 0} → StoreState → ℕ → ℕ → ℕ → Result T StoreFault → Type 0
 NeverWithRoom s d k len result = OnSlots s d (λ slots. RoomForBytes s d (place_of_slot s.origin.request k) len → NeverDamaged result)
+
+-- no tangled node is told of one that has the shape of a node, where there is as much room
+abbrev pub UntangledWithRoom : {T : Type 0} → StoreState → ℕ → ℕ → ℕ → Result T StoreFault → Type 0
+UntangledWithRoom s d k len result = UntangledIf s (IsNodeShaped s d × RoomForBytes s d (place_of_slot s.origin.request k) len) result
 
 -- Bytes were written first into slot k of a directory, which makes of it another slot, if the directory keeps its rules before and after.
 abbrev pub WritesSlot : StoreState → StoreState → ℕ → ℕ → List ℕ → Type 0

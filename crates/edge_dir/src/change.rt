@@ -7,7 +7,7 @@ ghost use Rattle.edge_store.specs.State.{IsLive, IsNumber, HasInode};
 ghost use Rattle.edge_slots.specs.Slot.{entry_of};
 ghost use Rattle.edge_tree.specs.Answers.{TellsWhatIs, IsReadable};
 ghost use Rattle.edge_file.specs.Writing.{KeepsInodesBut, WritesBytes};
-ghost use Rattle.edge_dir.specs.Written.{place_of_slot, NeverWithRoom, GrowsToBlock, WritesSlot, PlacesEntry, ReplacesNumber};
+ghost use Rattle.edge_dir.specs.Written.{place_of_slot, NeverWithRoom, UntangledWithRoom, GrowsToBlock, WritesSlot, PlacesEntry, ReplacesNumber};
 
 use crate::block::slot_number;
 use byteorder::{ByteOrder, LittleEndian};
@@ -46,7 +46,12 @@ fn block_end(g: &Geometry, slot: u64) -> u64
 }
 
 /// Writes bytes first into a slot. The directory ends with its block then, if it ended before.
-fn write_slot<S: Store>(s: &mut S, d: u32, slot: u64, bytes: &[u8]) -> Result<(), StoreFault>
+pub(crate) fn write_slot<S: Store>(
+    s: &mut S,
+    d: u32,
+    slot: u64,
+    bytes: &[u8],
+) -> Result<(), StoreFault>
     requires live { IsLive (S.state s.old) }
     requires number { IsNumber (S.state s.old) d }
     requires there { HasInode (S.state s.old) d }
@@ -58,6 +63,7 @@ fn write_slot<S: Store>(s: &mut S, d: u32, slot: u64, bytes: &[u8]) -> Result<()
     ensures point { KeepsPoint (S.state s.old) (S.state s.new) }
     ensures places { OnOk result (KeepsPlacesBut (S.state s.old) (S.state s.new) d) }
     ensures damage { TellsWhatIs (S.state s.old) (S.state s.new) result }
+    ensures untangled { UntangledWithRoom (S.state s.old) d slot (length bytes.now) result }
     ensures undamaged { NeverWithRoom (S.state s.old) d slot (length bytes.now) result }
     ensures inodes { OnOk result (KeepsInodesBut (S.state s.old) (S.state s.new) d) }
     ensures readable { OnOk result (IsReadable (S.state s.new) d) }
@@ -96,6 +102,8 @@ fn place_by<S: Store>(
     ensures point { KeepsPoint (S.state s.old) (S.state s.new) }
     ensures places { OnOk result (KeepsPlacesBut (S.state s.old) (S.state s.new) d) }
     ensures damage { TellsWhatIs (S.state s.old) (S.state s.new) result }
+    ensures untangled { UntangledWithRoom (S.state s.old) d slot
+        (4 + (S.state s.old).origin.request.name_max) result }
     ensures undamaged { NeverWithRoom (S.state s.old) d slot
         (4 + (S.state s.old).origin.request.name_max) result }
     ensures inodes { OnOk result (KeepsInodesBut (S.state s.old) (S.state s.new) d) }
@@ -130,6 +138,8 @@ pub fn place<S: Store>(
     ensures point { KeepsPoint (S.state s.old) (S.state s.new) }
     ensures places { OnOk result (KeepsPlacesBut (S.state s.old) (S.state s.new) d) }
     ensures damage { TellsWhatIs (S.state s.old) (S.state s.new) result }
+    ensures untangled { UntangledWithRoom (S.state s.old) d slot
+        (4 + (S.state s.old).origin.request.name_max) result }
     ensures undamaged { NeverWithRoom (S.state s.old) d slot
         (4 + (S.state s.old).origin.request.name_max) result }
     ensures inodes { OnOk result (KeepsInodesBut (S.state s.old) (S.state s.new) d) }
@@ -158,6 +168,7 @@ pub fn replace<S: Store>(s: &mut S, d: u32, slot: u64, number: u32) -> Result<()
     ensures point { KeepsPoint (S.state s.old) (S.state s.new) }
     ensures places { OnOk result (KeepsPlacesBut (S.state s.old) (S.state s.new) d) }
     ensures damage { TellsWhatIs (S.state s.old) (S.state s.new) result }
+    ensures untangled { UntangledWithRoom (S.state s.old) d slot 4 result }
     ensures undamaged { NeverWithRoom (S.state s.old) d slot 4 result }
     ensures inodes { OnOk result (KeepsInodesBut (S.state s.old) (S.state s.new) d) }
     ensures readable { OnOk result (IsReadable (S.state s.new) d) }

@@ -32,6 +32,13 @@ returns-clause-undamaged g c told slots parent node room =
     let long : length c.spell_slot.new.bytes ≡ 4 + r.name_max = c.spell_slot.auto.bytes ∙ c.requires.width in
     c.write_slot.ensures.undamaged told slots parent node (subst (λ (n : ℕ). RoomForBytes old c.args.d (place_of_slot r c.args.slot) n) (sym long) room)
 
+pub returns-clause-untangled : goal.returns-clause-untangled
+returns-clause-untangled g c told rules =
+    let old = g.S.Store.state c.args.s.now in
+    let r = old.origin.request in
+    let long : length c.spell_slot.new.bytes ≡ 4 + r.name_max = c.spell_slot.auto.bytes ∙ c.requires.width in
+    c.write_slot.ensures.untangled told (rules.0, subst (λ (n : ℕ). RoomForBytes old c.args.d (place_of_slot r c.args.slot) n) (sym long) rules.1)
+
 pub returns-clause-bytes : goal.returns-clause-bytes
 returns-clause-bytes g c =
     let old = g.S.Store.state c.args.s.now in

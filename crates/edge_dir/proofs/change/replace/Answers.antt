@@ -39,6 +39,13 @@ returns-clause-undamaged g c told slots parent node room =
     let four : length c.write_u32.new.buf ≡ 4 = ap length is ∙ length-bytes_low_first 0 4 c.args.number in
     c.write_slot.ensures.undamaged told slots parent node (subst (λ (n : ℕ). RoomForBytes old c.args.d (place_of_slot old.origin.request c.args.slot) n) (sym four) room)
 
+pub returns-clause-untangled : goal.returns-clause-untangled
+returns-clause-untangled g c told rules =
+    let old = g.S.Store.state c.args.s.now in
+    let is : c.write_u32.new.buf ≡ little_bytes 4 c.args.number = c.write_u32.ensures ∙ append_none (little_bytes 4 c.args.number) in
+    let four : length c.write_u32.new.buf ≡ 4 = ap length is ∙ length-bytes_low_first 0 4 c.args.number in
+    c.write_slot.ensures.untangled told (rules.0, subst (λ (n : ℕ). RoomForBytes old c.args.d (place_of_slot old.origin.request c.args.slot) n) (sym four) rules.1)
+
 pub returns-clause-bytes : goal.returns-clause-bytes
 returns-clause-bytes g c =
     let old = g.S.Store.state c.args.s.now in

@@ -67,6 +67,20 @@ returns-in_err-grow-clause-undamaged g c told slots parent node room d e =
     let p = err_from_is_err_and c.from_residual-in_err-grow.result c.from_residual-in_err-grow.ensures.1 in
     c.in_err-grow.ensures.undamaged told_mid (rw first.called.origin between) d (ap Err (sym p.2) ∙ same_fault _ _ (sym p.1 ∙ e))
 
+pub returns-in_err-write_at-clause-untangled : goal.returns-in_err-write_at-clause-untangled
+returns-in_err-write_at-clause-untangled g c told rules d e =
+    let old = g.S.Store.state c.args.s.now in
+    let at = c.slot_place-at.ensures.place ∙ ap (λ (x : Request). place_of_slot x c.args.slot) c.geometry-g.ensures in
+    let p = err_from_is_err_and c.from_residual.result c.from_residual.ensures.1 in
+    c.in_err-write_at.ensures.untangled told (rules.0, subst (λ (x : ℕ). RoomForBytes old c.args.d x (length c.args.bytes.now)) (sym at) rules.1) d
+    (ap Err (sym p.2) ∙ same_fault _ _ (sym p.1 ∙ e))
+
+pub returns-in_err-grow-clause-untangled : goal.returns-in_err-grow-clause-untangled
+returns-in_err-grow-clause-untangled g c told rules d e =
+    let told_mid : Told (g.S.Store.state c.write_at.new.s) = ap (λ (o : Origin). o.tells) c.in_ok-write_at.ensures.called.origin ∙ told in
+    let p = err_from_is_err_and c.from_residual-in_err-grow.result c.from_residual-in_err-grow.ensures.1 in
+    c.in_err-grow.ensures.untangled told_mid d (ap Err (sym p.2) ∙ same_fault _ _ (sym p.1 ∙ e))
+
 pub returns-clause-written : goal.returns-clause-written
 returns-clause-written g c told slots after parent slot node rules set becomes near count =
     let old = g.S.Store.state c.args.s.now in
