@@ -12,8 +12,26 @@ use edge_base::Refusal;
 use edge_model::{Answer, Status};
 use edge_store::Store;
 use edge_volume::{Stop, node_head};
+use edge_walk::{named_head, reach};
 
 impl<S: Store> Volume<S> {
+    /// What a path leads to.
+    pub(crate) fn stat(&mut self, path: &[u8]) -> Result<Answer, Stop>
+        requires live { IsLive (S.state self.old.store) }
+        ensures did { (out : List ℕ) → Did (command.stat path.now) result
+            (volume_of S.Store self.old) (volume_of S.Store self.new) out }
+        ensures below { KeepsBelow S.Store (fault_of result) self.old.store self.new.store }
+    {
+        let number = reach(&mut self.store, path)?;
+        let head = named_head(&mut self.store, number)?;
+        Ok(Answer::Stat(Status {
+            number,
+            kind: head.kind,
+            size: head.size,
+            links: head.links,
+        }))
+    }
+
     /// What an open node is. One that is gone, as it may be on a damaged image, is not open.
     pub(crate) fn fstat(&mut self, h: u32) -> Result<Answer, Stop>
         requires live { IsLive (S.state self.old.store) }
