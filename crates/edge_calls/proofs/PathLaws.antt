@@ -27,8 +27,9 @@ use Rattle.edge_volume.proofs.DidLaws.{mask_kept, did_refused, did_fault}
 use Rattle.edge_volume.proofs.OpenLaws.{same_opens, set_opens, set_here}
 use Rattle.edge_walk.specs.Spots.{enters, number_at}
 use Rattle.edge_walk.proofs.StepLaws.{after_number}
+use Rattle.edge_calls.specs.State.{status_in}
 use Rattle.edge_calls.proofs.LookedLaws.{did_looked}
-use Rattle.edge_calls.proofs.StatusLaws.{status_in, status_is}
+use Rattle.edge_calls.proofs.StatusLaws.{status_is}
 
 -- ---- plans
 

@@ -42,7 +42,8 @@ returns-clause-did g c out =
     let n = c.in_ok-number.number in
     let head = c.in_ok-head.head in
     let looks = looks_on g.S.Store None c.args.self.now.store c.reach.new.s c.named_head.new.s reached.looks c.in_ok-head.ensures.looks in
-    stat_told c.args.path.now old new out refl refl looks.ends looks.point (looks.reads refl) n head reached.number
+    subst (λ answer. Did (command.stat c.args.path.now) (Ok answer) old new out) (sym c.told.ensures)
+    (stat_told c.args.path.now old new out refl refl looks.ends looks.point (looks.reads refl) n head reached.number
     (subst (λ (o : Origin). OnTree old.store (λ t. Some head ≡ head_at o.request t n)) reached.looks.ends.origin
     (on_tree_before g.S.Store c.args.self.now.store c.reach.new.s reached.looks (λ t. Some head ≡ head_at (g.S.Store.state c.reach.new.s).origin.request t n)
-    c.in_ok-head.ensures.head))
+    c.in_ok-head.ensures.head)))
