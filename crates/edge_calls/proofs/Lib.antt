@@ -5,3 +5,4 @@ pub mod AskLaws
 pub mod LookedLaws
 pub mod StatusLaws
 pub mod MadeLaws
+pub mod PathLaws

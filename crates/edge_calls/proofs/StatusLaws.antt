@@ -10,7 +10,6 @@ use Rattle.edge_base.specs.tree.Nodes.{Node}
 use Rattle.edge_store.specs.declared.fault.StoreFault.{StoreFault}
 use Rattle.edge_store.specs.Calls.{KeepsPoint, KeepsWorking}
 use Rattle.edge_model.specs.declared.command.Answer.TheVariants as a
-use Rattle.edge_model.specs.declared.command.Status.{Status}
 use Rattle.edge_model.specs.Asked as command
 use Rattle.edge_model.specs.Open.{open_at}
 use Rattle.edge_model.specs.State.{State, keeps}
@@ -24,12 +23,9 @@ use Rattle.edge_volume.specs.Nodes.{OnTree, head_at, head_of_some}
 use Rattle.edge_volume.specs.Did.{Did}
 use Rattle.edge_volume.proofs.DidLaws.{mask_kept, did_refused_here, did_refused, did_fault}
 use Rattle.edge_volume.proofs.OpenLaws.{same_opens}
+use Rattle.edge_calls.specs.State.{status_in}
 use Rattle.edge_calls.proofs.LookedLaws.{did_looked}
 use Rattle.edge_calls.proofs.PlanLaws.{open_is_at}
-
--- the status that a head tells of a node
-abbrev pub status_in : ℕ → Head → Status
-status_in n head = record { number = n; kind = head.kind; size = head.size; links = head.links }
 
 pub status_is : (g : Request) (t : Tree) (n : ℕ) (head : Head) → Some head ≡ head_at g t n → command.status (status_in n head) ≡ status_of g t n
 status_is g t n head is = by (t n) refl

@@ -3,6 +3,7 @@
 #![tactic(auto)]
 
 mod descriptors;
+mod directory;
 mod handles;
 mod session;
 mod status;

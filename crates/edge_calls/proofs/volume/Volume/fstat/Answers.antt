@@ -1,5 +1,5 @@
 use Rattle.std.proofs.Common.{◌∙◌, refl, sym, ap, subst}
-use Rattle.std.specs.Prelude.{Err}
+use Rattle.std.specs.Prelude.{Ok, Err}
 use Rattle.std.proofs.lemmas.Result.{err_from_is_err_and}
 use Rattle.edge_handles.specs.Table.{descriptor_of}
 use Rattle.edge_model.specs.Asked as command
@@ -51,8 +51,9 @@ returns-clause-did g c out =
     let looked = c.in_ok-head.ensures in
     let old = volume_of g.S.Store c.args.self.now in
     let new = volume_of g.S.Store (record c.args.self.now { store = c.node_head.new.s }) in
-    fstat_told c.args.h old new out refl refl (descriptor_of c.in_ok-slot.slot) c.in_ok-slot.ensures looked.looks.ends looked.looks.point (looked.looks.reads refl)
-    c.in-Some.head (λ z stands tree. sym c.in-Some.is ∙ looked.head z stands tree)
+    subst (λ answer. Did (command.fstat c.args.h) (Ok answer) old new out) (sym c.told.ensures)
+    (fstat_told c.args.h old new out refl refl (descriptor_of c.in_ok-slot.slot) c.in_ok-slot.ensures looked.looks.ends looked.looks.point (looked.looks.reads refl)
+    c.in-Some.head (λ z stands tree. sym c.in-Some.is ∙ looked.head z stands tree))
 
 pub returns-clause-below : goal.returns-clause-below
 returns-clause-below g c = c.in_ok-head.ensures.looks.below

@@ -1,0 +1,5 @@
+pub mod StillLaws
+pub mod TreeLaws
+pub mod StepLaws
+pub mod WayLaws
+pub mod FindLaws

@@ -1,0 +1,15 @@
+use Rattle.std.proofs.Common.{◌≡◌, None}
+use Rattle.edge_model.specs.Walk.{walk, walk_from}
+use Rattle.edge_volume.specs.Nodes.{OnTree}
+use Rattle.edge_volume.specs.Parts.{Looks}
+use Rattle.edge_walk.specs.Reached.{IsReached}
+use Rattle.edge_walk.proofs.walk.locate.Given as goal
+
+abbrev pub invariant-loop-next : goal.invariant-loop-next
+invariant-loop-next g l = record {
+  more : (goal.iterator-loop-next g).can_next l.next-iterator;
+  finite : (goal.iterator-loop-next g).is_finite l.next-iterator;
+  looks : Looks g.S.Store None l.fn.s l.s;
+  reached : IsReached (g.S.Store.state l.s) l.d;
+  walks : OnTree (g.S.Store.state l.fn.s) (λ t. walk t l.fn.names ≡ walk_from t l.d l.name l.next-iterator);
+}

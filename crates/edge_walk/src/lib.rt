@@ -1,0 +1,11 @@
+//! Walks along paths, in the tree that a store stands for: where a path leads, and what is there.
+//! `specs/` has what is known of a number that a walk has come to.
+#![tactic(auto)]
+
+mod head;
+mod spot;
+mod walk;
+
+pub use head::named_head;
+pub use spot::{Spot, at_spot};
+pub use walk::{enter, locate, reach, spot_at};

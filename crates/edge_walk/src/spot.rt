@@ -1,0 +1,49 @@
+ghost use Rattle.std.specs.Prelude.{◌≡◌, IfOk, IfSome};
+ghost use Rattle.edge_store.specs.State.{IsLive};
+ghost use Rattle.edge_model.specs.Walk.{at_spot};
+ghost use Rattle.edge_volume.specs.Nodes.{OnTree};
+ghost use Rattle.edge_volume.specs.Parts.{Looks, IsOfNoDamage};
+ghost use Rattle.edge_volume.specs.Stopped.{fault_in};
+ghost use Rattle.edge_walk.specs.Reached.{IsReached};
+ghost use Rattle.edge_walk.specs.Spots.{HasHolder, IsFoundAt, spot_in, found_in};
+
+use edge_dir::{Found, find};
+use edge_store::{Store, StoreFault};
+
+/// The number of the root.
+pub(crate) const ROOT: u32 = 2;
+
+/// Where a path leads: to the root, or to a name in a directory, which may have no such name.
+#[derive(Clone, Copy, Debug)]
+pub enum Spot<'a> {
+    Top,
+    Within { d: u32, name: &'a [u8] },
+}
+
+/// What is at a spot: the slot of its directory that has the name, and the number that it names.
+/// None where the directory has no such name. The root is in no slot, and is told with slot 0.
+pub fn at_spot<S: Store>(s: &mut S, spot: Spot<'_>) -> Result<Option<Found>, StoreFault>
+    requires live { IsLive (S.state s.old) }
+    requires holder { HasHolder (S.state s.old) spot }
+    ensures looks { Looks S.Store (fault_in result) s.old s.new }
+    ensures undamaged { OnTree (S.state s.old) (λ t. IsOfNoDamage (fault_in result)) }
+    ensures found { IfOk result (λ found. OnTree (S.state s.old)
+        (λ t. found_in found ≡ at_spot t (spot_in spot.entry))) }
+    ensures within { IfOk result (IsFoundAt (S.state s.old).origin.request spot.entry) }
+    ensures reached { IfOk result (λ found.
+        IfSome found (λ found. IsReached (S.state s.new) found.number)) }
+{
+    match spot {
+        Spot::Top => {
+            let _within_limits = s.geometry().request();
+            Ok(Some(Found {
+                slot: 0,
+                number: ROOT,
+            }))
+        }
+        Spot::Within { d, name } => {
+            let found = find(s, d, name)?;
+            Ok(found)
+        }
+    }
+}

@@ -1,0 +1,103 @@
+ghost use Rattle.std.specs.Prelude.{◌≡◌, IfOk, OnOk};
+ghost use Rattle.edge_model.specs.Walk.{walk, spot_of};
+ghost use Rattle.edge_store.specs.State.{IsLive};
+ghost use Rattle.edge_volume.specs.Nodes.{OnTree};
+ghost use Rattle.edge_volume.specs.Parts.{Looks, IsOfNoDamage};
+ghost use Rattle.edge_volume.specs.Stopped.{fault_of, IfAnswered};
+ghost use Rattle.edge_walk.specs.Reached.{IsReached, IsHolder};
+ghost use Rattle.edge_walk.specs.Spots.{HasHolder, spotted, enters, number_below, number_at};
+
+use crate::head::named_head;
+use crate::spot::{ROOT, Spot, at_spot};
+use edge_base::{NodeType, Refusal};
+use edge_dir::find;
+use edge_path::{PathNames, parts};
+use edge_store::Store;
+use edge_volume::Stop;
+
+/// A number that has to be a directory's, on the way to a name in it.
+pub fn enter<S: Store>(s: &mut S, d: u32) -> Result<(), Stop>
+    requires live { IsLive (S.state s.old) }
+    requires reached { IsReached (S.state s.old) d }
+    ensures looks { Looks S.Store (fault_of result) s.old s.new }
+    ensures undamaged { OnTree (S.state s.old) (λ t. IsOfNoDamage (fault_of result)) }
+    ensures kind { IfAnswered result (λ r. OnTree (S.state s.old) (λ t. r ≡ enters t d)) }
+    ensures holder { OnOk result (IsHolder (S.state s.new) d) }
+{
+    let head = named_head(s, d)?;
+    match head.kind {
+        NodeType::Directory => Ok(()),
+        NodeType::File => Err(Stop::Refused(Refusal::NotDir)),
+    }
+}
+
+/// The number that a directory has under a name.
+fn below<S: Store>(s: &mut S, d: u32, name: &[u8]) -> Result<u32, Stop>
+    requires live { IsLive (S.state s.old) }
+    requires reached { IsReached (S.state s.old) d }
+    ensures looks { Looks S.Store (fault_of result) s.old s.new }
+    ensures undamaged { OnTree (S.state s.old) (λ t. IsOfNoDamage (fault_of result)) }
+    ensures number { IfAnswered result (λ r.
+        OnTree (S.state s.old) (λ t. r ≡ number_below t d name.now)) }
+    ensures reached { IfOk result (IsReached (S.state s.new)) }
+{
+    enter(s, d)?;
+    match find(s, d, name)? {
+        Some(found) => Ok(found.number),
+        None => Err(Stop::Refused(Refusal::NoEntry)),
+    }
+}
+
+/// Where the names of a path lead. Each directory on the way is read once, up to its name.
+pub fn locate<'a, S: Store>(s: &mut S, mut names: PathNames<'a>) -> Result<Spot<'a>, Stop>
+    requires live { IsLive (S.state s.old) }
+    ensures looks { Looks S.Store (fault_of result) s.old s.new }
+    ensures undamaged { OnTree (S.state s.old) (λ t. IsOfNoDamage (fault_of result)) }
+    ensures spot { IfAnswered result (λ r.
+        OnTree (S.state s.old) (λ t. spotted r ≡ walk t names.entry)) }
+    ensures holder { IfOk result (HasHolder (S.state s.new)) }
+{
+    let Some(mut name) = names.next() else {
+        return Ok(Spot::Top);
+    };
+    let _within_limits = s.geometry().request();
+    let mut d = ROOT;
+    for next in names {
+        d = below(s, d, name)?;
+        name = next;
+    }
+    enter(s, d)?;
+    Ok(Spot::Within { d, name })
+}
+
+/// Where a path leads, or why it is refused.
+pub fn spot_at<'a, S: Store>(s: &mut S, path: &'a [u8]) -> Result<Spot<'a>, Stop>
+    requires live { IsLive (S.state s.old) }
+    ensures looks { Looks S.Store (fault_of result) s.old s.new }
+    ensures undamaged { OnTree (S.state s.old) (λ t. IsOfNoDamage (fault_of result)) }
+    ensures spot { IfAnswered result (λ r. OnTree (S.state s.old)
+        (λ t. spotted r ≡ spot_of (S.state s.old).origin.request t path.now)) }
+    ensures holder { IfOk result (HasHolder (S.state s.new)) }
+{
+    let name_max = s.geometry().request().name_max;
+    match parts(path, name_max) {
+        Ok(names) => locate(s, names),
+        Err(refusal) => Err(Stop::Refused(refusal)),
+    }
+}
+
+/// The number that a path leads to, or why it is refused.
+pub fn reach<S: Store>(s: &mut S, path: &[u8]) -> Result<u32, Stop>
+    requires live { IsLive (S.state s.old) }
+    ensures looks { Looks S.Store (fault_of result) s.old s.new }
+    ensures undamaged { OnTree (S.state s.old) (λ t. IsOfNoDamage (fault_of result)) }
+    ensures number { IfAnswered result (λ r. OnTree (S.state s.old)
+        (λ t. r ≡ number_at (S.state s.old).origin.request t path.now)) }
+    ensures reached { IfOk result (IsReached (S.state s.new)) }
+{
+    let spot = spot_at(s, path)?;
+    match at_spot(s, spot)? {
+        Some(found) => Ok(found.number),
+        None => Err(Stop::Refused(Refusal::NoEntry)),
+    }
+}
