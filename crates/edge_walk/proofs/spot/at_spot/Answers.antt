@@ -39,5 +39,5 @@ returns-in_ok-found-in-Within-clause-reached g c =
     let found = c.in_ok-found-in-Within in
     let call = found.ensures in
     each_reached g.S.Store c.args.s.now c.find.new.s c.in-Within.d c.in-Within.name.now found.found
-    (looks_of_call g.S.Store c.args.s.now c.find.new.s (Ok found.found) call.called call.point call.reads call.below call.clean)
+    (looks_of_call g.S.Store c.args.s.now c.find.new.s (Ok found.found) call.called call.point call.reads call.below call.clean call.damage)
     holder call.within call.seen call.found

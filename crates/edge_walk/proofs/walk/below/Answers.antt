@@ -27,7 +27,7 @@ returns-in-Some-clause-reached g c =
     let b = g.S.Store.state c.enter.new.s in
     let call = c.in_ok-found.ensures in
     found_reached g.S.Store c.enter.new.s c.find.new.s c.args.d c.args.name.now c.in-Some.found
-    (looks_of_call g.S.Store c.enter.new.s c.find.new.s (Ok c.in_ok-found.field-0) call.called call.point call.reads call.below call.clean)
+    (looks_of_call g.S.Store c.enter.new.s c.find.new.s (Ok c.in_ok-found.field-0) call.called call.point call.reads call.below call.clean call.damage)
     c.in_ok-enter.ensures.holder
     (subst (IsFoundWithin b.origin.request) c.in-Some.is call.within)
     (subst (SeesName b c.args.d c.args.name.now) c.in-Some.is call.seen)
