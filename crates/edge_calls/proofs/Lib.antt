@@ -5,3 +5,8 @@ pub mod AskLaws
 pub mod LookedLaws
 pub mod StatusLaws
 pub mod MadeLaws
+pub mod RoomLaws
+pub mod PlaceLaws
+pub mod WriteLaws
+pub mod SizingLaws
+pub mod CutLaws

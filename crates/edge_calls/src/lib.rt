@@ -4,8 +4,10 @@
 
 mod descriptors;
 mod handles;
+mod resize;
 mod session;
 mod status;
 mod volume;
+mod write;
 
 pub use volume::Volume;
