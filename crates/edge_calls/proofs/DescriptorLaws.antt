@@ -212,7 +212,7 @@ directory_is (Some x) d is = by x.directory is
     by false e = absurd (cc)
 
 -- a state with these descriptors, whatever else it has
-abbrev with_descriptors : Descriptors → State
+abbrev pub with_descriptors : Descriptors → State
 with_descriptors table = record (first_state (λ n. None)) { descriptors = table }
 
 module _ (table : Descriptors) (h : ℕ) (d : Descriptor) where

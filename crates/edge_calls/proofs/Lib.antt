@@ -6,3 +6,8 @@ pub mod LookedLaws
 pub mod StatusLaws
 pub mod MadeLaws
 pub mod PathLaws
+pub mod RoomLaws
+pub mod PlaceLaws
+pub mod WriteLaws
+pub mod SizingLaws
+pub mod CutLaws

@@ -1,1 +1,3 @@
 pub mod State
+pub mod Writes
+pub mod Sizes

@@ -5,8 +5,10 @@
 mod descriptors;
 mod directory;
 mod handles;
+mod resize;
 mod session;
 mod status;
 mod volume;
+mod write;
 
 pub use volume::Volume;
