@@ -80,7 +80,7 @@ returns-in_err-fill_at g c = record {
       (write_faulted (command.fill c.args.h c.args.count c.args.byte) c.args.h (replicate c.args.count c.args.byte) (same c.args.h c.args.count c.args.byte) c.args.count (sym (length-replicate c.args.count c.args.byte)) old out
       (g.met.S.Store.is_geometry c.args.self.now.store) place.slot place.at c.has.result b (record { ends = told.looks.ends; point = told.looks.point; working = told.looks.reads refl })
       (c.has.ensures.one event.full refl) (let low = c.requires.limits.0 in omega arith) told.within told.place
-      mid room.ends room.most room.judged (λ z command p. sym c.if-not-branch.false ∙ room.fits z command p) refl told.open told.file _ c.in_err-fill_at.field-0.0 last refl refl (ends_of_call mid.store last.store (Err c.in_err-fill_at.field-0.0) wrote.called) wrote.point wrote.undamaged
+      mid room.ends room.most room.judged (λ z command p. sym c.if-not-branch.false ∙ room.fits z command p) refl told.open told.file _ c.in_err-fill_at.field-0.0 last refl refl (ends_of_call mid.store last.store (Err c.in_err-fill_at.field-0.0) wrote.called wrote.damage) wrote.point wrote.undamaged
       (λ fit is_told. room.room c.if-not-branch.false is_told));
 }
 
@@ -102,7 +102,7 @@ returns-in_err-take_point g c = record {
       (write_ended (command.fill c.args.h c.args.count c.args.byte) c.args.h (replicate c.args.count c.args.byte) (same c.args.h c.args.count c.args.byte) c.args.count (sym (length-replicate c.args.count c.args.byte)) old out
       (g.met.S.Store.is_geometry c.args.self.now.store) place.slot place.at c.has.result b (record { ends = told.looks.ends; point = told.looks.point; working = told.looks.reads refl })
       (c.has.ensures.one event.full refl) (let low = c.requires.limits.0 in omega arith) told.within told.place
-      mid room.ends room.most room.judged (λ z command p. sym c.if-not-branch.false ∙ room.fits z command p) refl told.open told.file made (λ is_told. g.met.S.Store.working_is_view c.fill_at.new.s is_told wrote.called.live) (ends_of_call mid.store made (Ok c.in_ok-fill_at.field-0) wrote.called) wrote.point
+      mid room.ends room.most room.judged (λ z command p. sym c.if-not-branch.false ∙ room.fits z command p) refl told.open told.file made (λ is_told. g.met.S.Store.working_is_view c.fill_at.new.s is_told wrote.called.live) (ends_of_call mid.store made (Ok c.in_ok-fill_at.field-0) wrote.called wrote.damage) wrote.point
       wrote.written (subst (λ k. GrowsTo mid.store made place.slot.number (place.at + k)) (sym (length-replicate c.args.count c.args.byte)) wrote.grown) c.has-2.result (c.has-2.ensures.one event.write refl) last refl
       (c.move_to-open.ensures.moved (descriptor_of place.slot) told.open ∙ ap (moved c.args.self.now.handles c.args.h (descriptor_of place.slot)) c.end_of-end.ensures)
       c.in_err-take_point.field-0.0 point.ends point.most point.comes);
@@ -125,7 +125,7 @@ returns g c = record {
       (write_done (command.fill c.args.h c.args.count c.args.byte) c.args.h (replicate c.args.count c.args.byte) (same c.args.h c.args.count c.args.byte) c.args.count (sym (length-replicate c.args.count c.args.byte)) old out
       (g.met.S.Store.is_geometry c.args.self.now.store) place.slot place.at c.has.result b (record { ends = told.looks.ends; point = told.looks.point; working = told.looks.reads refl })
       (c.has.ensures.one event.full refl) (let low = c.requires.limits.0 in omega arith) told.within told.place
-      mid room.ends room.most room.judged (λ z command p. sym c.if-not-branch.false ∙ room.fits z command p) refl told.open told.file made (λ is_told. g.met.S.Store.working_is_view c.fill_at.new.s is_told wrote.called.live) (ends_of_call mid.store made (Ok c.in_ok-fill_at.field-0) wrote.called) wrote.point
+      mid room.ends room.most room.judged (λ z command p. sym c.if-not-branch.false ∙ room.fits z command p) refl told.open told.file made (λ is_told. g.met.S.Store.working_is_view c.fill_at.new.s is_told wrote.called.live) (ends_of_call mid.store made (Ok c.in_ok-fill_at.field-0) wrote.called wrote.damage) wrote.point
       wrote.written (subst (λ k. GrowsTo mid.store made place.slot.number (place.at + k)) (sym (length-replicate c.args.count c.args.byte)) wrote.grown) c.has-2.result (c.has-2.ensures.one event.write refl) last refl
       (c.move_to-open.ensures.moved (descriptor_of place.slot) told.open ∙ ap (moved c.args.self.now.handles c.args.h (descriptor_of place.slot)) c.end_of-end.ensures)
       point.ends point.most point.comes);

@@ -68,7 +68,7 @@ returns-in_err-set_size g c = record {
       (cut_faulted c.args.h c.args.size old out
       (g.met.S.Store.is_geometry c.args.self.now.store) sizing.slot sizing.reserve c.has-full.result b
       (record { ends = told.looks.ends; point = told.looks.point; working = told.looks.reads refl }) (c.has-full.ensures.one event.full refl) told.within told.sizing told.open told.file
-      mid room.ends room.most room.judged (λ z command p. sym c.if-not-branch.false ∙ room.fits z command p) refl _ c.in_err-set_size.field-0.0 last refl refl (ends_of_call mid.store last.store (Err c.in_err-set_size.field-0.0) wrote.called) wrote.point wrote.undamaged
+      mid room.ends room.most room.judged (λ z command p. sym c.if-not-branch.false ∙ room.fits z command p) refl _ c.in_err-set_size.field-0.0 last refl refl (ends_of_call mid.store last.store (Err c.in_err-set_size.field-0.0) wrote.called wrote.damage) wrote.point wrote.undamaged
       (λ fit is_told. room.room c.if-not-branch.false is_told));
 }
 
@@ -90,7 +90,7 @@ returns-in_err-take_point g c = record {
       (cut_ended c.args.h c.args.size old out
       (g.met.S.Store.is_geometry c.args.self.now.store) sizing.slot sizing.reserve c.has-full.result b
       (record { ends = told.looks.ends; point = told.looks.point; working = told.looks.reads refl }) (c.has-full.ensures.one event.full refl) told.within told.sizing told.open told.file
-      mid room.ends room.most room.judged (λ z command p. sym c.if-not-branch.false ∙ room.fits z command p) refl made (λ is_told. g.met.S.Store.working_is_view c.set_size.new.s is_told wrote.called.live) (ends_of_call mid.store made (Ok c.in_ok-set_size.field-0) wrote.called) wrote.point
+      mid room.ends room.most room.judged (λ z command p. sym c.if-not-branch.false ∙ room.fits z command p) refl made (λ is_told. g.met.S.Store.working_is_view c.set_size.new.s is_told wrote.called.live) (ends_of_call mid.store made (Ok c.in_ok-set_size.field-0) wrote.called wrote.damage) wrote.point
       wrote.shortened wrote.lengthened wrote.set wrote.sized c.has.result (c.has.ensures.one event.truncate refl) last refl refl
       c.in_err-take_point.field-0.0 point.ends point.most point.comes);
 }
@@ -111,7 +111,7 @@ returns g c = record {
       cut_done c.args.h c.args.size old out
       (g.met.S.Store.is_geometry c.args.self.now.store) sizing.slot sizing.reserve c.has-full.result b
       (record { ends = told.looks.ends; point = told.looks.point; working = told.looks.reads refl }) (c.has-full.ensures.one event.full refl) told.within told.sizing told.open told.file
-      mid room.ends room.most room.judged (λ z command p. sym c.if-not-branch.false ∙ room.fits z command p) refl made (λ is_told. g.met.S.Store.working_is_view c.set_size.new.s is_told wrote.called.live) (ends_of_call mid.store made (Ok c.in_ok-set_size.field-0) wrote.called) wrote.point
+      mid room.ends room.most room.judged (λ z command p. sym c.if-not-branch.false ∙ room.fits z command p) refl made (λ is_told. g.met.S.Store.working_is_view c.set_size.new.s is_told wrote.called.live) (ends_of_call mid.store made (Ok c.in_ok-set_size.field-0) wrote.called wrote.damage) wrote.point
       wrote.shortened wrote.lengthened wrote.set wrote.sized c.has.result (c.has.ensures.one event.truncate refl) last refl refl
       point.ends point.most point.comes;
 }

@@ -78,7 +78,7 @@ returns-in_err-write_at g c = record {
       (write_faulted (command.write c.args.h c.args.bytes.now) c.args.h c.args.bytes.now (bytes c.args.h c.args.bytes.now) (length c.args.bytes.now) (refl) old out
       (g.met.S.Store.is_geometry c.args.self.now.store) place.slot place.at c.has.result b (record { ends = told.looks.ends; point = told.looks.point; working = told.looks.reads refl })
       (c.has.ensures.one event.full refl) (let low = c.requires.limits.0 in omega arith) told.within told.place
-      mid room.ends room.most room.judged (λ z command p. sym c.if-not-branch.false ∙ room.fits z command p) refl told.open told.file _ c.in_err-write_at.field-0.0 last refl refl (ends_of_call mid.store last.store (Err c.in_err-write_at.field-0.0) wrote.called) wrote.point wrote.undamaged
+      mid room.ends room.most room.judged (λ z command p. sym c.if-not-branch.false ∙ room.fits z command p) refl told.open told.file _ c.in_err-write_at.field-0.0 last refl refl (ends_of_call mid.store last.store (Err c.in_err-write_at.field-0.0) wrote.called wrote.damage) wrote.point wrote.undamaged
       (λ fit is_told. room.room c.if-not-branch.false is_told));
 }
 
@@ -100,7 +100,7 @@ returns-in_err-take_point g c = record {
       (write_ended (command.write c.args.h c.args.bytes.now) c.args.h c.args.bytes.now (bytes c.args.h c.args.bytes.now) (length c.args.bytes.now) (refl) old out
       (g.met.S.Store.is_geometry c.args.self.now.store) place.slot place.at c.has.result b (record { ends = told.looks.ends; point = told.looks.point; working = told.looks.reads refl })
       (c.has.ensures.one event.full refl) (let low = c.requires.limits.0 in omega arith) told.within told.place
-      mid room.ends room.most room.judged (λ z command p. sym c.if-not-branch.false ∙ room.fits z command p) refl told.open told.file made (λ is_told. g.met.S.Store.working_is_view c.write_at.new.s is_told wrote.called.live) (ends_of_call mid.store made (Ok c.in_ok-write_at.field-0) wrote.called) wrote.point
+      mid room.ends room.most room.judged (λ z command p. sym c.if-not-branch.false ∙ room.fits z command p) refl told.open told.file made (λ is_told. g.met.S.Store.working_is_view c.write_at.new.s is_told wrote.called.live) (ends_of_call mid.store made (Ok c.in_ok-write_at.field-0) wrote.called wrote.damage) wrote.point
       wrote.written wrote.grown c.has-2.result (c.has-2.ensures.one event.write refl) last refl
       (c.move_to-open.ensures.moved (descriptor_of place.slot) told.open ∙ ap (moved c.args.self.now.handles c.args.h (descriptor_of place.slot)) c.end_of-end.ensures)
       c.in_err-take_point.field-0.0 point.ends point.most point.comes);
@@ -123,7 +123,7 @@ returns g c = record {
       (write_done (command.write c.args.h c.args.bytes.now) c.args.h c.args.bytes.now (bytes c.args.h c.args.bytes.now) (length c.args.bytes.now) (refl) old out
       (g.met.S.Store.is_geometry c.args.self.now.store) place.slot place.at c.has.result b (record { ends = told.looks.ends; point = told.looks.point; working = told.looks.reads refl })
       (c.has.ensures.one event.full refl) (let low = c.requires.limits.0 in omega arith) told.within told.place
-      mid room.ends room.most room.judged (λ z command p. sym c.if-not-branch.false ∙ room.fits z command p) refl told.open told.file made (λ is_told. g.met.S.Store.working_is_view c.write_at.new.s is_told wrote.called.live) (ends_of_call mid.store made (Ok c.in_ok-write_at.field-0) wrote.called) wrote.point
+      mid room.ends room.most room.judged (λ z command p. sym c.if-not-branch.false ∙ room.fits z command p) refl told.open told.file made (λ is_told. g.met.S.Store.working_is_view c.write_at.new.s is_told wrote.called.live) (ends_of_call mid.store made (Ok c.in_ok-write_at.field-0) wrote.called wrote.damage) wrote.point
       wrote.written wrote.grown c.has-2.result (c.has-2.ensures.one event.write refl) last refl
       (c.move_to-open.ensures.moved (descriptor_of place.slot) told.open ∙ ap (moved c.args.self.now.handles c.args.h (descriptor_of place.slot)) c.end_of-end.ensures)
       point.ends point.most point.comes);
