@@ -4,5 +4,10 @@ pub mod PlannedLaws
 pub mod RoomLaws
 pub mod MadeLaws
 pub mod NamedLaws
+pub mod DropLaws
+pub mod UnlinkLaws
+pub mod UnnamedLaws
+pub mod NamedAtLaws
+pub mod GoneLaws
 pub mod StoreLaws
 pub mod LinkedLaws

@@ -14,13 +14,13 @@ use Rattle.edge_steps.proofs.SetLaws.{placed_is}
 use Rattle.edge_stands.specs.Stands.{with_links}
 
 -- the slots and the kind of what a number has
-abbrev slots_in : Option Node → Slots
+abbrev pub slots_in : Option Node → Slots
 slots_in o = slots_of_node (unwrap_or o (file [] []))
 
-abbrev kind_in : Option Node → Bool
+abbrev pub kind_in : Option Node → Bool
 kind_in o = is_directory_node (unwrap_or o (file [] []))
 
-links_by : (g : Request) (t u : Tree) (n : ℕ) → is_directory u n ≡ is_directory t n → names_of_number g u n ≡ names_of_number g t n → links_of g t n ≡ links_of g u n
+pub links_by : (g : Request) (t u : Tree) (n : ℕ) → is_directory u n ≡ is_directory t n → names_of_number g u n ≡ names_of_number g t n → links_of g t n ≡ links_of g u n
 links_by g t u n kind names = sym (ap (λ b. cond b 1 (names_of_number g u n)) kind ∙ ap (cond (is_directory t n) 1) names)
 
 -- Slot `slot` of directory d, which was empty, has come to name n.

@@ -1,9 +1,11 @@
-//! Names put into directories, over a store that stands for a tree of files: what is left of a
-//! command once it is known that nothing refuses it and that there is room.
+//! Names put into directories and taken out, over a store that stands for a tree of files: what is
+//! left of a command once it is known that nothing refuses it and that there is room.
 #![tactic(auto)]
 
 mod link;
 mod make;
+mod unname;
 
 pub use link::add_name;
 pub use make::make_node;
+pub use unname::{drop_node, remove_name};
