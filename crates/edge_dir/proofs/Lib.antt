@@ -7,6 +7,8 @@ pub mod TextLaws
 pub mod HeldLaws
 pub mod WriteLaws
 pub mod SetLaws
+pub mod KeptLaws
+pub mod LeftLaws
 pub mod EntryLaws
 pub mod StoreLaws
 pub mod BoundLaws

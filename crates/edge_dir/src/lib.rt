@@ -4,9 +4,11 @@
 
 mod block;
 mod change;
+mod clearing;
 mod entries;
 mod look;
 
 pub use change::{place, replace};
+pub use clearing::blocks_when_cleared;
 pub use entries::{entry_at, is_empty, slots};
 pub use look::{Found, Place, find, free_slot, look_up};
