@@ -17,8 +17,8 @@ use Rattle.edge_dir.proofs.TextLaws.{width, with_in, with_out}
 
 -- ---- how many
 
-pub length_filled : (slots after : Slots) (k : ℕ) (e : Entry) → trimmed slots ≡ slots → trimmed after ≡ after → k ≤ length slots → IsSetTo slots after k (Some e) → length after ≡ max (length slots) (k + 1)
-length_filled slots after k e trim trim_after near set =
+pub length_filled : (slots after : Slots) (k : ℕ) (e : Entry) → trimmed slots ≡ slots → trimmed after ≡ after → IsSetTo slots after k (Some e) → length after ≡ max (length slots) (k + 1)
+length_filled slots after k e trim trim_after set =
     let inside = before_end after k (λ none. let wrong : Some e ≡ None = sym set.0 ∙ none in absurd (cc)) in
     elim (cases_lt (max (length slots) (k + 1)) (length after)) [
       | inl more ↦
@@ -46,8 +46,8 @@ pieces_with n k some = ap (λ (x : ℕ). x / n) (let e : k + 1 + (n - 1) ≡ k +
 pub pieces_near : (n k count : ℕ) → 0 < n → k ≤ count → k / n ≤ pieces n count
 pieces_near n k count some near = div_less n k (count + (n - 1)) some (omega (arith, near))
 
-pub blocks_filled : (n k count after : ℕ) → 0 < n → k ≤ count → after ≡ max count (k + 1) → pieces n after ≡ max (pieces n count) (k / n + 1)
-blocks_filled n k count after some near is =
+pub blocks_filled : (n k count after : ℕ) → 0 < n → after ≡ max count (k + 1) → pieces n after ≡ max (pieces n count) (k / n + 1)
+blocks_filled n k count after some is =
     let one = pieces_with n k some in
     elim (cases_lt k count) [
       | inl low ↦
@@ -55,8 +55,8 @@ blocks_filled n k count after some near is =
           let least = pieces_less n (k + 1) count some (omega (arith, low)) in
           omega (arith, same, least, one)
       | inr end ↦
-          let same : pieces n after ≡ pieces n (k + 1) = ap (pieces n) (let e : after ≡ k + 1 = omega (arith, is, end, near) in e) in
-          let most = pieces_less n count (k + 1) some (omega (arith, end, near)) in
+          let same : pieces n after ≡ pieces n (k + 1) = ap (pieces n) (let e : after ≡ k + 1 = omega (arith, is, end) in e) in
+          let most = pieces_less n count (k + 1) some (omega (arith, end)) in
           omega (arith, same, most, one)
     ]
 

@@ -52,12 +52,12 @@ before_end slots k filled = elim (cases_lt k (length slots)) [
 ]
 
 -- of trimmed slots the rest are trimmed
-abbrev put : Option Entry → Slots → Slots
+abbrev pub put : Option Entry → Slots → Slots
 put None [] = []
 put None (next ∷ rest) = None ∷ next ∷ rest
 put (Some e) rest = Some e ∷ rest
 
-trimmed_put : (slot : Option Entry) (slots : Slots) → trimmed (slot ∷ slots) ≡ put slot (trimmed slots)
+pub trimmed_put : (slot : Option Entry) (slots : Slots) → trimmed (slot ∷ slots) ≡ put slot (trimmed slots)
 trimmed_put None slots = refl
 trimmed_put (Some e) slots = refl
 
@@ -66,7 +66,7 @@ put_rest None slots [] h = absurd (let wrong : [] ≡ None ∷ slots = h in cc)
 put_rest None slots (next ∷ rest) h = let both : None ∷ next ∷ rest ≡ None ∷ slots = h in cc
 put_rest (Some e) slots rest h = let both : Some e ∷ rest ≡ Some e ∷ slots = h in cc
 
-trimmed_rest : (slot : Option Entry) (slots : Slots) → trimmed (slot ∷ slots) ≡ slot ∷ slots → trimmed slots ≡ slots
+pub trimmed_rest : (slot : Option Entry) (slots : Slots) → trimmed (slot ∷ slots) ≡ slot ∷ slots → trimmed slots ≡ slots
 trimmed_rest slot slots h = put_rest slot slots (trimmed slots) (sym (trimmed_put slot slots) ∙ h)
 
 -- the last slot is filled

@@ -105,7 +105,7 @@ fn blocks_left<S: Store>(s: &mut S, d: u32, count: u32, room: &mut [u8]) -> Resu
 }
 
 /// How many data blocks a directory has when a filled slot is cleared.
-fn blocks_without<S: Store>(s: &mut S, d: u32, slot: u64) -> Result<u32, StoreFault>
+pub fn blocks_when_cleared<S: Store>(s: &mut S, d: u32, slot: u64) -> Result<u32, StoreFault>
     requires live { IsLive (S.state s.old) }
     requires number { IsNumber (S.state s.old) d }
     requires there { HasInode (S.state s.old) d }
@@ -217,7 +217,7 @@ pub fn clear<S: Store>(s: &mut S, d: u32, slot: u64) -> Result<(), StoreFault>
     let g = s.geometry();
     let _within_limits = g.request();
     let in_block = u64::from(slots_in_block(&g));
-    let left = blocks_without(s, d, slot)?;
+    let left = blocks_when_cleared(s, d, slot)?;
     if slot / in_block < u64::from(left) {
         return empty_slot(s, d, slot);
     }

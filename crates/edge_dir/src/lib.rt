@@ -9,6 +9,6 @@ mod entries;
 mod look;
 
 pub use change::{place, replace};
-pub use clearing::clear;
+pub use clearing::{blocks_when_cleared, clear};
 pub use entries::{entry_at, is_empty, slots};
 pub use look::{Found, Place, find, free_slot, look_up};

@@ -1,4 +1,8 @@
 pub mod SizeLaws
+pub mod EmptyLaws
+pub mod LeftLaws
+pub mod SlotLaws
+pub mod BesideLaws
 pub mod CountLaws
 pub mod RowLaws
 pub mod FreshLaws

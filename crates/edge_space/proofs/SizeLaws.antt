@@ -60,15 +60,15 @@ by_tests g c v true false d gone x y inside whole = whole refl
 by_tests g c v false i d gone x y inside whole = fresh_none g c v
 
 -- a size that is not less counts nothing
-pub counted_longer : (g : Request) (c v : View) (n size : ℕ) (indices : ℕ → List ℕ) → is_longer v n size ≡ false
-    → fresh_count g c v (writes_of g v (Size n size)) (removes_of g v (Size n size) indices) ≡ 0
-counted_longer g c v n size indices e = by (is_longer v n size) (has_rest g v n size) (data_at n (size / g.block_size)) (removed n (pieces g.block_size size) (indices n)) e
+pub counted_longer : (g : Request) (c v : View) (n size : ℕ) (indices : ℕ → List ℕ) (left : ℕ) → is_longer v n size ≡ false
+    → fresh_count g c v (writes_of g v (Size n size) left) (removes_of g v (Size n size) indices left) ≡ 0
+counted_longer g c v n size indices left e = by (is_longer v n size) (has_rest g v n size) (data_at n (size / g.block_size)) (removed n (pieces g.block_size size) (indices n)) e
   where
     by : (l i : Bool) (d : Position) (gone : List Position) → l ≡ false → fresh_count g c v (cond (l && i) (d ∷ []) []) (cond l gone []) ≡ 0
     by true i d gone e = absurd (cc)
     by false i d gone e = fresh_none g c v
 
-module _ (g : Request) (c v : View) (n size : ℕ) (indices : ℕ → List ℕ) (shape : HasShape g v n (indices n)) (some : 0 < g.block_size) (most : size ≤ max_size_of g) where
+module _ (g : Request) (c v : View) (n size : ℕ) (indices : ℕ → List ℕ) (left : ℕ) (shape : HasShape g v n (indices n)) (some : 0 < g.block_size) (most : size ≤ max_size_of g) where
   abbrev blocks : ℕ
   blocks = pieces g.block_size size
 
@@ -82,6 +82,6 @@ module _ (g : Request) (c v : View) (n size : ℕ) (indices : ℕ → List ℕ) 
       ∙ fresh_size-chain g c v n blocks (indices n) shape past (few_pieces g.block_size size (max_blocks_of g) some most)
       ∙ sym (chain_count g c v n (blocks - 1)) ∙ ap (fresh_on_chain g c v n) last
 
-  pub counted_size : fresh_count g c v (writes_of g v (Size n size)) (removes_of g v (Size n size) indices) ≡ need_of_change g c v (Size n size)
+  pub counted_size : fresh_count g c v (writes_of g v (Size n size) left) (removes_of g v (Size n size) indices left) ≡ need_of_change g c v (Size n size) left
   counted_size = by_tests g c v (is_longer v n size) (has_rest g v n size) (data_at n (size / g.block_size)) (removed n blocks (indices n))
       (fresh_on_chain g c v n (size / g.block_size)) (cut_need g c v n blocks) inside (λ whole. fresh_cut g c v n blocks (indices n) shape)

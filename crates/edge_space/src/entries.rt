@@ -12,7 +12,7 @@ use edge_store::{Store, StoreFault};
 use edge_tree::{cost_of, entry_link};
 
 /// What making the block of an entry new takes.
-fn entry_cost<S: Store>(s: &mut S, n: u32, entry: u32) -> Result<u32, StoreFault>
+pub(crate) fn entry_cost<S: Store>(s: &mut S, n: u32, entry: u32) -> Result<u32, StoreFault>
     requires live { IsLive (S.state s.old) }
     requires number { IsNumber (S.state s.old) n }
     requires there { HasInode (S.state s.old) n }

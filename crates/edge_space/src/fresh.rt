@@ -9,6 +9,7 @@ ghost use Rattle.edge_space.specs.Changes.{IsWithin};
 use crate::change::Change;
 use crate::run::fresh_of_bytes;
 use crate::size::fresh_of_size;
+use crate::slots::fresh_of_slots;
 use edge_store::{Store, StoreFault};
 
 /// The number of positions that a change makes dirty and that are not dirty yet. Each takes a free
@@ -29,9 +30,11 @@ pub fn fresh_of<S: Store>(s: &mut S, change: &Change) -> Result<u32, StoreFault>
     ensures need { IfOk result (IsNeedOf (S.state s.old) change.now) }
     ensures fresh { IfOk result (IsFreshOf (S.state s.old) change.now) }
 {
+    let _within_limits = s.geometry().request();
     match *change {
         Change::Bytes { n, at, len } => fresh_of_bytes(s, n, at, len),
         Change::Size { n, size } => fresh_of_size(s, n, size),
+        Change::Slots { put, clear } => fresh_of_slots(s, put, clear),
     }
 }
 

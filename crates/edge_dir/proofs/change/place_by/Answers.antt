@@ -21,8 +21,8 @@ returns-clause-placed g c =
     let long : length c.spell_slot.new.bytes ≡ 4 + r.name_max = c.spell_slot.auto.bytes ∙ c.requires.width in
     written told slots after parent (Some e) node rules set (becomes_whole r (slot_of slots c.args.slot) (Some e) c.spell_slot.new.bytes long spelled)
     (pieces_near (slots_in_block r) c.args.slot (length slots) (some_slots r limits) near)
-    (blocks_filled (slots_in_block r) c.args.slot (length slots) (length after) (some_slots r limits) near
-    (length_filled slots after c.args.slot e node.rules.last_filled rules.last_filled near set)))
+    (blocks_filled (slots_in_block r) c.args.slot (length slots) (length after) (some_slots r limits)
+    (length_filled slots after c.args.slot e node.rules.last_filled rules.last_filled set)))
     c.write_slot.ensures.written
 
 pub returns-clause-undamaged : goal.returns-clause-undamaged

@@ -28,8 +28,8 @@ returns-clause-replaced g c =
     (subst (λ (l : List ℕ). BecomesSlot r (Some e) l (Some (entry_of e.name c.args.number))) (sym is) (becomes_number r e c.args.number)) in
     written told slots after parent (Some (entry_of e.name c.args.number)) node rules set becomes
     (pieces_near (slots_in_block r) c.args.slot (length slots) (some_slots r limits) near)
-    (blocks_filled (slots_in_block r) c.args.slot (length slots) (length after) (some_slots r limits) near
-    (length_filled slots after c.args.slot (entry_of e.name c.args.number) node.rules.last_filled rules.last_filled near set)))
+    (blocks_filled (slots_in_block r) c.args.slot (length slots) (length after) (some_slots r limits)
+    (length_filled slots after c.args.slot (entry_of e.name c.args.number) node.rules.last_filled rules.last_filled set)))
     c.write_slot.ensures.written
 
 pub returns-clause-undamaged : goal.returns-clause-undamaged

@@ -32,7 +32,7 @@ returns-in_err-left-clause-untangled g c told rules d e =
 pub returns-then-slot-in_block-clause-undamaged : goal.returns-then-slot-in_block-clause-undamaged
 returns-then-slot-in_block-clause-undamaged g c told slots parent node after rules low set room =
     let old = g.S.Store.state c.args.s.now in
-    let mid = g.S.Store.state c.blocks_without.new.s in
+    let mid = g.S.Store.state c.blocks_when_cleared.new.s in
     let r = old.origin.request in
     let first = c.in_ok-left.ensures in
     let width : c.from-in_block.result ≡ slots_in_block r = c.from-in_block.ensures ∙ c.slots_in_block.ensures.count ∙ ap slots_in_block c.geometry-g.ensures in
@@ -46,7 +46,7 @@ returns-then-slot-in_block-clause-undamaged g c told slots parent node after rul
 pub returns-then-slot-in_block-clause-untangled : goal.returns-then-slot-in_block-clause-untangled
 returns-then-slot-in_block-clause-untangled g c told rules =
     let old = g.S.Store.state c.args.s.now in
-    let mid = g.S.Store.state c.blocks_without.new.s in
+    let mid = g.S.Store.state c.blocks_when_cleared.new.s in
     let first = c.in_ok-left.ensures in
     let never : UntangledWithRoom old c.args.d c.args.slot (4 + old.origin.request.name_max) c.empty_slot.result =
     back old mid first.called.origin first.point.committed first.reads.working (λ s. UntangledWithRoom s c.args.d c.args.slot (4 + s.origin.request.name_max) c.empty_slot.result) c.empty_slot.ensures.untangled in
@@ -55,7 +55,7 @@ returns-then-slot-in_block-clause-untangled g c told rules =
 pub returns-then-slot-in_block-clause-emptied : goal.returns-then-slot-in_block-clause-emptied
 returns-then-slot-in_block-clause-emptied g c =
     let old = g.S.Store.state c.args.s.now in
-    let mid = g.S.Store.state c.blocks_without.new.s in
+    let mid = g.S.Store.state c.blocks_when_cleared.new.s in
     let new = g.S.Store.state c.empty_slot.new.s in
     let first = c.in_ok-left.ensures in
     let done = c.empty_slot.ensures in
@@ -67,7 +67,7 @@ returns-then-slot-in_block-clause-emptied g c =
 pub returns-then-slot-in_block-clause-cleared : goal.returns-then-slot-in_block-clause-cleared
 returns-then-slot-in_block-clause-cleared g c =
     let old = g.S.Store.state c.args.s.now in
-    let mid = g.S.Store.state c.blocks_without.new.s in
+    let mid = g.S.Store.state c.blocks_when_cleared.new.s in
     let new = g.S.Store.state c.empty_slot.new.s in
     let r = old.origin.request in
     let first = c.in_ok-left.ensures in
@@ -87,7 +87,7 @@ returns-then-slot-in_block-clause-cleared g c =
 pub returns-clause-undamaged : goal.returns-clause-undamaged
 returns-clause-undamaged g c told slots parent node after rules low set room =
     let old = g.S.Store.state c.args.s.now in
-    let mid = g.S.Store.state c.blocks_without.new.s in
+    let mid = g.S.Store.state c.blocks_when_cleared.new.s in
     let r = old.origin.request in
     let first = c.in_ok-left.ensures in
     let limits : IsWithinLimits r = subst IsWithinLimits c.geometry-g.ensures c.request-within_limits.ensures.limits in
@@ -104,7 +104,7 @@ returns-clause-undamaged g c told slots parent node after rules low set room =
 pub returns-clause-untangled : goal.returns-clause-untangled
 returns-clause-untangled g c told rules =
     let old = g.S.Store.state c.args.s.now in
-    let mid = g.S.Store.state c.blocks_without.new.s in
+    let mid = g.S.Store.state c.blocks_when_cleared.new.s in
     let r = old.origin.request in
     let first = c.in_ok-left.ensures in
     let width : c.from-in_block.result ≡ slots_in_block r = c.from-in_block.ensures ∙ c.slots_in_block.ensures.count ∙ ap slots_in_block c.geometry-g.ensures in
@@ -117,7 +117,7 @@ returns-clause-untangled g c told rules =
 pub returns-clause-emptied : goal.returns-clause-emptied
 returns-clause-emptied g c =
     let old = g.S.Store.state c.args.s.now in
-    let mid = g.S.Store.state c.blocks_without.new.s in
+    let mid = g.S.Store.state c.blocks_when_cleared.new.s in
     let new = g.S.Store.state c.cut_blocks.new.s in
     let r = old.origin.request in
     let first = c.in_ok-left.ensures in
@@ -129,7 +129,7 @@ returns-clause-emptied g c =
 pub returns-clause-cleared : goal.returns-clause-cleared
 returns-clause-cleared g c =
     let old = g.S.Store.state c.args.s.now in
-    let mid = g.S.Store.state c.blocks_without.new.s in
+    let mid = g.S.Store.state c.blocks_when_cleared.new.s in
     let new = g.S.Store.state c.cut_blocks.new.s in
     let r = old.origin.request in
     let first = c.in_ok-left.ensures in

@@ -6,10 +6,10 @@ use Rattle.edge_space.proofs.BytesLaws.{bytes_run, room_bytes}
 use Rattle.edge_space.proofs.laws.bytes_ask_for_their_fresh_positions.Goals as goal
 
 pub returns-clause-room : goal.returns-clause-room
-returns-clause-room c g past v n at len indices = room_bytes g past v n at len
+returns-clause-room c g past v n at len indices left = room_bytes g past v n at len
 
 pub returns-clause-run : goal.returns-clause-run
-returns-clause-run c g v n at len p geometry within =
+returns-clause-run c g v n at len left p geometry within =
     let size = some_bytes g (some_pointers_fit g geometry) in
     let first = at / g.block_size in
     let last = (at + len - 1) / g.block_size in

@@ -7,8 +7,8 @@ use Rattle.edge_space.proofs.SizeLaws.{counted_size, counted_longer}
 use Rattle.edge_space.proofs.laws.sizes_ask_for_their_fresh_positions.Goals as goal
 
 pub returns-clause-shorter : goal.returns-clause-shorter
-returns-clause-shorter c g past v n size indices shape most longer =
-    counted_size g past v n size indices shape (some_bytes g (some_pointers_fit g shape.geometry)) most ∙ cond-true (is_longer v n size) _ 0 longer
+returns-clause-shorter c g past v n size indices left shape most longer =
+    counted_size g past v n size indices left shape (some_bytes g (some_pointers_fit g shape.geometry)) most ∙ cond-true (is_longer v n size) _ 0 longer
 
 pub returns-clause-longer : goal.returns-clause-longer
-returns-clause-longer c g past v n size indices low = counted_longer g past v n size indices low
+returns-clause-longer c g past v n size indices left low = counted_longer g past v n size indices left low

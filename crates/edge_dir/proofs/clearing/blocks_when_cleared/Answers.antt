@@ -13,7 +13,7 @@ use Rattle.edge_dir.proofs.EndLaws.{some_slots}
 use Rattle.edge_dir.proofs.KeptLaws.{all_left, fewer_left, loses_empty, loses_none, other_left}
 use Rattle.edge_dir.proofs.LeftLaws.{filled_too, left_too}
 use Rattle.edge_dir.proofs.StoreLaws.{below_end, count_seen, node_on, told_back, told_on}
-use Rattle.edge_dir.proofs.clearing.blocks_without.Goals as goal
+use Rattle.edge_dir.proofs.clearing.blocks_when_cleared.Goals as goal
 
 pub overflow_add-slot : goal.overflow_add-slot
 overflow_add-slot g c =
