@@ -1,18 +1,12 @@
 """What docs/FORMAT.md ("Files") and docs/DEFINITIONS.md say of the blocks of a node, as a program over a store in memory:
 which positions a change makes new, what a cut removes, and which damage is met."""
+from rows_dirs import Directories
+from rows_faults import Damage, Nothing
 from rows_model import Unknown, bad_geometry, table
 
 
 UNDER = {"double": "indirect", "indirect": "data"}
 UNREAD = 0xee
-
-
-class Damage(Exception):
-    """The kind of damage, and the block that it was met in. It ends the store."""
-
-
-class Nothing(Exception):
-    """What is asked is not there to be asked of."""
 
 
 class Block:
@@ -33,7 +27,7 @@ class Store:
         self.table = table(size, blocks)
         self.first, self.end, self.numbers = self.table + 2 * inodes, blocks, range(2, 2 + inodes)
         self.most = direct + indirect * self.inner + (self.entries - direct - indirect) * self.inner**2
-        self.sizes, self.held = {2: 0}, {2: {}}
+        self.sizes, self.held, self.folders = {2: 0}, {2: {}}, {2}
         self.blocks, self.committed, self.live, self.calls = {}, set(), True, 0
 
     # -- blocks
@@ -277,7 +271,7 @@ class Store:
         self.sizes[n] = size
 
 
-class StoreTable:
+class StoreTable(Directories):
     """Answers the statements of the table. The store stays from one line to the next."""
     store = None
 

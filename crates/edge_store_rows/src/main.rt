@@ -7,9 +7,11 @@ mod answer;
 mod blocks;
 mod bytes;
 mod counted;
+mod dirs;
 mod exact;
 mod hand;
 mod row;
+mod set;
 mod space;
 mod there;
 

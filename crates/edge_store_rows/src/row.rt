@@ -2,6 +2,7 @@ use crate::answer::push_told;
 use crate::blocks::ask_blocks;
 use crate::bytes::{ask_bytes, push_read};
 use crate::counted::Counted;
+use crate::dirs::push_dir;
 use crate::exact::ask_change;
 use crate::hand::ask_by_hand;
 use crate::space::ask_space;
@@ -73,6 +74,7 @@ fn push_answer<S: Store>(alloc: Global, out: &mut String, s: &mut S, words: &[&s
     }
     let told = match word(words, 0)? {
         "read" => return push_read(alloc, out, s, words),
+        "dir" => return push_dir(out, s, words),
         "file" | "size" | "place" | "forget" | "inodes" | "free" | "point" => ask_space(s, words)?,
         "take" | "entry" | "pointer" | "drop" => ask_by_hand(s, words)?,
         "fresh" | "fits" => ask_change(s, words)?,
