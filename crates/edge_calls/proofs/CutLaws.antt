@@ -100,7 +100,7 @@ module _ (g : Request) (v : View) (t : Tree) (n size : ℕ) (geometry : IsGeomet
   longer_is : (long : length (text_of t n) ≤ size) → is_longer v n size ≡ false
   longer_is long = ap (nat_lt size) (size_was g v t n size geometry stands there rules) ∙ le-ltb size (length (text_of t n)) long
 
-  cut_writes : (cut g t n size).writes ≡ writes_of g v (Size n size)
+  cut_writes : (cut g t n size).writes ≡ writes_of g v (Size n size) 0
   cut_writes = ⊎_elim
       (λ (low : size < length (text_of t n)).
       ap (map (data_at n)) (same_rest g v t n size geometry stands there rules low) ∙ mapped_if (has_rest g v n size) (size / g.block_size)
@@ -110,7 +110,7 @@ module _ (g : Request) (v : View) (t : Tree) (n size : ℕ) (geometry : IsGeomet
       ∙ ap (λ b. cond (b && has_rest g v n size) (data_at n (size / g.block_size) ∷ []) []) (sym (longer_is long)))
       (cases_lt size (length (text_of t n)))
 
-  cut_removes : (cut g t n size).removes ≡ removes_of g v (Size n size) (blocks_in g t)
+  cut_removes : (cut g t n size).removes ≡ removes_of g v (Size n size) (blocks_in g t) 0
   cut_removes = ⊎_elim
       (λ (low : size < length (text_of t n)).
       ap (λ (o : Option Node). removed n (pieces g.block_size size) (indices_at g o)) (sym there)
@@ -121,7 +121,7 @@ module _ (g : Request) (v : View) (t : Tree) (n size : ℕ) (geometry : IsGeomet
       (cases_lt size (length (text_of t n)))
 
   pub cut_named : (reserve : ℕ) → (cut g t n size).reserve ≡ reserve → NamesEdit g v t (Size n size) reserve (cut g t n size)
-  cut_named reserve leaves = record { writes = λ p. ap (λ ps. has ps p) cut_writes; removes = λ p. ap (λ ps. has ps p) cut_removes; leaves = leaves }
+  cut_named reserve leaves = record { left = 0; are_left = tt; writes = λ p. ap (λ ps. has ps p) cut_writes; removes = λ p. ap (λ ps. has ps p) cut_removes; leaves = leaves }
 
 -- ---- ends
 
@@ -239,7 +239,7 @@ module _ (h size : ℕ) (old : VolumeState) (out : List ℕ) where
       -- as many blocks are free as a shorter size needs
       room_so : HasRoomWhere mid.store change reserve true → Told mid.store → RoomForSize mid.store slot.number size
       room_so room is_told less =
-          let low = room refl is_told in
+          let low = room refl is_told 0 tt in
           let whole = cond-true (is_longer mid.store.working slot.number size) (shortening_need mid.store.origin.request mid.store.committed mid.store.working slot.number size) 0
           (lt-ltb size (size_at mid.store.working slot.number) less) in
           omega arith

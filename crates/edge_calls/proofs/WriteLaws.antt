@@ -144,6 +144,8 @@ module _ (command : Asked) (h : ℕ) (new : List ℕ) (w : Writes command h new)
 
     pub names_in : (s : State) → NamesEdit (request_of old) old.store.working s.tree change 3 (edit_in s)
     names_in s = record {
+      left = 0;
+      are_left = tt;
       writes = λ p.
           let g = request_of old in
           let size = some_bytes g (some_pointers_fit g geometry) in
@@ -221,7 +223,7 @@ module _ (command : Asked) (h : ℕ) (new : List ℕ) (w : Writes command h new)
       write_faulted T fault last mask are ended point never room =
           did_in_change command old mid out geometry b full change 3 looked plans ends most judges fits mid_mask fault last mask (same_opens old last are) ended point
           (λ of_bytes limits s stands z k damage e.
-          let low = room refl k.stands.told in
+          let low = room refl k.stands.told 0 tt in
           never k.stands.told (sized_so of_bytes limits s stands z k) (omega arith) damage (ap Err (let f : Some fault ≡ Some (Damaged damage) = e in cc)))
 
       module _ (made : StoreState) (view : Told made → IsView made.origin.request made.working) (made_ends : EndsBy None mid.store made) (point : KeepsPoint mid.store made)

@@ -1,37 +1,48 @@
 -- How a change is judged that an edit of a command's plan names.
 use Rattle.std.proofs.Common.{◌≡◌, ◌∙◌, ℕ, ◌+◌, ◌≤◌, ◌&&◌, nat_lt, Bool, true, false, List, [], ◌∷◌, is_some, refl, sym, ap, subst, Option, Some, None}
-use Rattle.std.specs.Prelude.{Result, Ok, Err, OnOk, IfOk}
+use Rattle.std.specs.Prelude.{◌*◌, ◌/◌, ◌<◌, Result, Ok, Err, OnOk, IfOk, IfSome}
+use Rattle.std.specs.List.{range_with_len}
+use Rattle.std.proofs.Math.Nat.{mul-div_cancel_left}
 use Rattle.std.proofs.lemmas.Bool.{leb-true, le-leb}
 use Rattle.edge_base.specs.commands.Events as event
 use Rattle.edge_base.specs.declared.geometry.Request.{Request}
 use Rattle.edge_base.specs.layout.Places.{IsGeometry}
 use Rattle.edge_base.specs.outside.Below.{Origin}
-use Rattle.edge_base.specs.tree.Nodes.{Node}
+use Rattle.edge_base.specs.declared.node.Head.{Head}
+use Rattle.edge_base.specs.declared.node.NodeType.TheVariants.{File, Directory}
+use Rattle.edge_base.specs.tree.Nodes.{Node, file, directory, indices_of}
+use Rattle.edge_base.specs.tree.Slots as tree
+use Rattle.edge_base.specs.tree.Slots.{slot_blocks}
 use Rattle.edge_store.specs.declared.fault.StoreFault.{StoreFault}
 use Rattle.edge_store.specs.declared.fault.StoreFault.TheVariants.{Damaged}
 use Rattle.edge_store.specs.Calls.{Called, KeepsPoint, KeepsWorking, NeverDamaged, TakesPoint}
 use Rattle.edge_store.specs.Fresh.{fresh_count}
 use Rattle.edge_store.specs.State.{StoreState, Told, IsNumber, HasInode}
 use Rattle.edge_store.specs.Told.{MeetsNone}
-use Rattle.edge_store.specs.View.{free_now, free_after}
+use Rattle.edge_store.specs.Placed.{HasNode, IsShaped}
+use Rattle.edge_store.specs.View.{View, free_now, free_after, head_of_inode, whole}
 use Rattle.edge_store.proofs.ChangedLaws.{same_truth}
 use Rattle.edge_shape.specs.Shape.{HasShape}
 use Rattle.edge_count.proofs.JoinLaws.{same_named}
 use Rattle.edge_space.specs.declared.change.Change.{Change}
-use Rattle.edge_space.specs.declared.change.Change.TheVariants.{Bytes, Size}
-use Rattle.edge_space.specs.Answers.{AreThere, NeverOnNamed, HasRoomFor, IsFitting, count_of_change}
-use Rattle.edge_space.specs.Changes.{AreShaped, writes_of, removes_of}
+use Rattle.edge_space.specs.declared.change.Change.TheVariants.{Bytes, Size, Slots}
+use Rattle.edge_space.specs.declared.change.SlotAt.{SlotAt}
+use Rattle.edge_dir.specs.Directory.{IsDirectoryNode}
+use Rattle.edge_space.specs.Answers.{AreThere, IsSoundDirectory, NeverOnNamed, HasRoomFor, IsFitting, count_of_change}
+use Rattle.edge_space.specs.Changes.{AreLeft, AreShaped, writes_of, removes_of}
 use Rattle.edge_model.specs.Asked.{Asked, space}
+use Rattle.edge_model.specs.Rules.{IsTree}
 use Rattle.edge_model.specs.State.{State, Plan, Edit, Judged, judged, judged_by, judged_full, keeps, fits, gains_by_point, point_taken}
 use Rattle.edge_model.specs.Step.{plan, room_of}
 use Rattle.edge_model.specs.Tree.{Tree, links_of}
+use Rattle.edge_steps.proofs.PlanLaws.{some_bytes}
 use Rattle.edge_steps.proofs.PointLaws.{same_plan}
 use Rattle.edge_steps.proofs.SessionLaws.{point_session}
-use Rattle.edge_stands.specs.Stands.{StandsWith, indices_at}
+use Rattle.edge_stands.specs.Stands.{StandsWith, head_with, indices_at}
 use Rattle.edge_stands.proofs.FreshLaws.{fits_counted}
 use Rattle.edge_stands.proofs.NodeLaws.{with_links_of}
 use Rattle.edge_stands.proofs.SpaceLaws.{gains_is}
-use Rattle.edge_stands.proofs.StandingLaws.{each_shape, each_shaped}
+use Rattle.edge_stands.proofs.StandingLaws.{each_node, each_shape, each_shaped}
 use Rattle.edge_volume.specs.Stopped.{fault_in}
 use Rattle.edge_volume.specs.Volume.{StoreStands}
 use Rattle.edge_volume.specs.Parts.{EndsBy, IsOfNoDamage, Comes}
@@ -51,6 +62,12 @@ gains_told st full now after z is_now is_after stands is_full =
 
 -- ---- the nodes of a change
 
+one_head : (x y : Head) → Some x ≡ Some y → x ≡ y
+one_head x y e = cc
+
+same_factor : (n a b : ℕ) → 0 < n → n * a ≡ n * b → a ≡ b
+same_factor n a b some same = sym (mul-div_cancel_left a some) ∙ ap (λ (x : ℕ). x / n) same ∙ mul-div_cancel_left b some
+
 module _ (st : StoreState) (z : State) (stands : StoreStands st z) where
   with_all : StandsWith st.origin.request st.working z.tree (links_of st.origin.request z.tree)
   with_all = (with_links_of st.origin.request st.working z.tree).0 stands.views.tree
@@ -66,11 +83,34 @@ module _ (st : StoreState) (z : State) (stands : StoreStands st z) where
           absurd (let f : false ≡ true = sym (ap is_some absent) ∙ some in cc)
       by (Some node) is = (node, is)
 
+  -- the data blocks of a directory are those of the tree, by its size
+  same_blocks : (d : ℕ) (slots : tree.Slots) (parent : ℕ) → IsGeometry st.origin.request → HasNode st.origin.request st.working d (directory slots parent)
+      → blocks_in st.origin.request z.tree d ≡ indices_of st.origin.request (directory slots parent)
+  same_blocks d slots parent geometry node = by (z.tree d) refl
+    where
+      g : Request
+      g = st.origin.request
+
+      by_node : (other : Node) → head_of_inode (st.working.inodes d) ≡ Some (head_with g (links_of g z.tree d) other) → indices_of g other ≡ indices_of g (directory slots parent)
+      by_node (file content present) is =
+          absurd (let wrong : File ≡ Directory = ap (λ (h : Head). h.kind) (one_head _ _ (sym is ∙ ap head_of_inode node.inode)) ∙ node.kind in cc)
+      by_node (directory others holder) is =
+          let size : g.block_size * slot_blocks g others ≡ g.block_size * slot_blocks g slots = ap (λ (h : Head). h.size) (one_head _ _ (sym is ∙ ap head_of_inode node.inode)) ∙ node.size in
+          ap (range_with_len 0) (same_factor g.block_size (slot_blocks g others) (slot_blocks g slots) (some_bytes g geometry) size)
+
+      by : (o : Option Node) → z.tree d ≡ o → indices_at g o ≡ indices_of g (directory slots parent)
+      by None none =
+          let absent = (stands.views.tree.numbers d).0 none in
+          absurd (let wrong : None ≡ Some (whole node.head node.entries) = sym absent ∙ node.inode in cc)
+      by (Some other) is = by_node other (ap head_of_inode (with_all.nodes d other is).head.inode)
+
   -- they have the shape of nodes, with the data blocks of the tree
-  pub shaped : (change : Change) → IsGeometry st.origin.request → AreThere st change
-      → AreShaped st.origin.request st.working change (blocks_in st.origin.request z.tree)
-  shaped (Bytes n at len) geometry there = tt
-  shaped (Size n size) geometry there =
+  pub shaped : (change : Change) (left : ℕ) → IsGeometry st.origin.request → AreThere st change → AreLeft st.origin.request st.working change left
+      → AreShaped st.origin.request st.working change (blocks_in st.origin.request z.tree) left
+  shaped (Bytes n at len) left geometry there are = tt
+  shaped (Slots put None) left geometry there are = tt
+  shaped (Slots put (Some clear)) left geometry there are = (are, same_blocks clear.dir are.slots are.parent geometry are.node)
+  shaped (Size n size) left geometry there are =
       let k = node_of n there.1 in
       subst (λ (o : Option Node). HasShape st.origin.request st.working n (indices_at st.origin.request o)) (sym k.1)
       (each_shape st.origin.request st.working z.tree _ stands.views.working_is_view with_all n k.0 k.1 geometry)
@@ -79,12 +119,31 @@ module _ (st : StoreState) (z : State) (stands : StoreStands st z) where
   never_told (Ok x) never d e = absurd (cc)
   never_told (Err fault) never d e = never d (ap Err (let h : Some fault ≡ Some (Damaged d) = e in cc))
 
+  -- a directory keeps its rules
+  sound_directory : (d : ℕ) → IsTree st.origin.request z.tree → HasInode st d → IsDirectoryNode st d → IsSoundDirectory st d
+  sound_directory d tree there kind = let k = node_of d there in let h = kind stands.told in by k.0 k.1 (sym (ap head_of_inode (with_all.nodes d k.0 k.1).head.inode) ∙ h.1) h.2
+    where
+      by : (node : Node) → z.tree d ≡ Some node → {head : Head} → Some (head_with st.origin.request (links_of st.origin.request z.tree d) node) ≡ Some head → head.kind ≡ Directory → IsSoundDirectory st d
+      by (file content present) is same kind = absurd (let wrong : File ≡ Directory = ap (λ (h : Head). h.kind) (one_head _ _ same) ∙ kind in cc)
+      by (directory slots parent) is same kind = (slots, parent,
+          each_node st.origin.request st.working z.tree _ stands.views.working_is_view with_all d (directory slots parent) is (tree.nodes d (directory slots parent) is))
+
+  put_shaped : (put : Option SlotAt) → IfSome put (λ at. IsNumber st at.dir × HasInode st at.dir) → IfSome put (λ at. IsShaped st.origin.request st.working at.dir)
+  put_shaped None there = tt
+  put_shaped (Some at) there = let k = node_of at.dir there.1 in each_shaped st.origin.request st.working z.tree _ stands.views.working_is_view with_all at.dir k.0 k.1
+
+  clear_sound : (clear : Option SlotAt) → IsTree st.origin.request z.tree → IfSome clear (λ at. IsNumber st at.dir × HasInode st at.dir × IsDirectoryNode st at.dir)
+      → IfSome clear (λ at. IsSoundDirectory st at.dir)
+  clear_sound None tree there = tt
+  clear_sound (Some at) tree there = sound_directory at.dir tree there.1 there.2
+
   -- so no damage is told of them
-  pub undamaged : {T : Type 0} (change : Change) (r : Result T StoreFault) → AreThere st change → NeverOnNamed st change r → IsOfNoDamage (fault_in r)
-  undamaged (Bytes n at len) r there never =
+  pub undamaged : {T : Type 0} (change : Change) (r : Result T StoreFault) → IsTree st.origin.request z.tree → AreThere st change → NeverOnNamed st change r → IsOfNoDamage (fault_in r)
+  undamaged (Slots put clear) r tree there never = never_told r (never stands.told (put_shaped put there.0) (clear_sound clear tree there.1))
+  undamaged (Bytes n at len) r tree there never =
       let k = node_of n there.1 in
       never_told r (never stands.told (each_shaped st.origin.request st.working z.tree _ stands.views.working_is_view with_all n k.0 k.1))
-  undamaged (Size n size) r there never =
+  undamaged (Size n size) r tree there never =
       let k = node_of n there.1 in
       never_told r (never stands.told (each_shaped st.origin.request st.working z.tree _ stands.views.working_is_view with_all n k.0 k.1))
 
@@ -94,10 +153,23 @@ both_still a b n origin working there = (
   (λ told. rw working (there.1 (ap (λ (o : Origin). o.tells) (sym origin) ∙ told))),
 )
 
+put_still : (a b : StoreState) (put : Option SlotAt) → b.origin ≡ a.origin → b.working ≡ a.working → IfSome put (λ at. IsNumber a at.dir × HasInode a at.dir)
+    → IfSome put (λ at. IsNumber b at.dir × HasInode b at.dir)
+put_still a b None origin working there = tt
+put_still a b (Some at) origin working there = both_still a b at.dir origin working there
+
+clear_still : (a b : StoreState) (clear : Option SlotAt) → b.origin ≡ a.origin → b.working ≡ a.working
+    → IfSome clear (λ at. IsNumber a at.dir × HasInode a at.dir × IsDirectoryNode a at.dir) → IfSome clear (λ at. IsNumber b at.dir × HasInode b at.dir × IsDirectoryNode b at.dir)
+clear_still a b None origin working there = tt
+clear_still a b (Some at) origin working there =
+    let both = both_still a b at.dir origin working (there.0, there.1) in
+    (both.0, both.1, λ told. rw working (there.2 (ap (λ (o : Origin). o.tells) (sym origin) ∙ told)))
+
 -- where a store keeps its working view they are still there
 pub there_still : (a b : StoreState) (change : Change) → b.origin ≡ a.origin → b.working ≡ a.working → AreThere a change → AreThere b change
 there_still a b (Bytes n at len) origin working there = both_still a b n origin working there
 there_still a b (Size n size) origin working there = both_still a b n origin working there
+there_still a b (Slots put clear) origin working there = (put_still a b put origin working there.0, clear_still a b clear origin working there.1)
 
 -- ---- what is judged
 
@@ -106,9 +178,10 @@ module _ (st : StoreState) (full : Bool) (change : Change) (reserve : ℕ) (z : 
   pub fits_told : (b : Bool) → IsGeometry st.origin.request → AreThere st change → IsFitting st change reserve b → b ≡ fits st.origin.request z p.edit
   fits_told b geometry there is =
       let g = st.origin.request in
-      let told = is p.stands.told (blocks_in g z.tree) (shaped st z p.stands change geometry there) in
-      let counted = same_named g st.committed st.working p.edit.writes (writes_of g st.working change) p.edit.removes (removes_of g st.working change (blocks_in g z.tree)) p.names.writes p.names.removes in
-      let low : fresh_count g st.committed st.working p.edit.writes p.edit.removes + p.edit.reserve ≡ count_of_change st change (blocks_in g z.tree) + reserve = (λ i. counted i + p.names.leaves i) in
+      let left = p.names.left in
+      let told = is p.stands.told (blocks_in g z.tree) left (shaped st z p.stands change left geometry there p.names.are_left) in
+      let counted = same_named g st.committed st.working p.edit.writes (writes_of g st.working change left) p.edit.removes (removes_of g st.working change (blocks_in g z.tree) left) p.names.writes p.names.removes in
+      let low : fresh_count g st.committed st.working p.edit.writes p.edit.removes + p.edit.reserve ≡ count_of_change st change (blocks_in g z.tree) left + reserve = (λ i. counted i + p.names.leaves i) in
       let by_count = fits_counted g st.committed st.working z command p.done p.edit geometry p.of_bytes p.in_limits p.session.trees p.session.dirty.upwards p.stands.views p.is p.has_edit in
       same_truth b (fits g z p.edit)
       (λ h. by_count.1 (subst (λ (n : ℕ). n ≤ free_now g st.committed st.working) (sym low) (leb-true _ _ (sym told ∙ h))))
@@ -176,9 +249,11 @@ plans_after a b full change reserve z command origin working stands p = record {
 -- by the answer of `fits`, in the store as it leaves it
 pub room_still : (a b : StoreState) (change : Change) (reserve : ℕ) (r : Result Bool StoreFault) → b.origin ≡ a.origin → b.committed ≡ a.committed
     → OnOk r (KeepsWorking a b) → IfOk r (HasRoomFor a change reserve) → IfOk r (HasRoomWhere b change reserve)
-room_still a b change reserve (Ok x) origin committed keeps told = λ fit told_b.
+room_still a b change reserve (Ok x) origin committed keeps told = λ fit told_b left are.
     let told_a : Told a = ap (λ (o : Origin). o.tells) (sym origin) ∙ told_b in
-    let low = leb-true _ _ (sym (told told_a) ∙ fit) in
+    let were : AreLeft a.origin.request a.working change left =
+    subst (λ (v : View). AreLeft a.origin.request v change left) keeps.working (subst (λ (o : Origin). AreLeft o.request b.working change left) origin are) in
+    let low = leb-true _ _ (sym (told told_a left were) ∙ fit) in
     rw (origin, committed, keeps.working) low
 room_still a b change reserve (Err fault) origin committed keeps told = told
 
@@ -188,7 +263,7 @@ room_still a b change reserve (Err fault) origin committed keeps told = told
 pub judged_fault : (a b : StoreState) (full : Bool) (change : Change) (reserve : ℕ) (z r : State) (command : Asked) (points : List Tree) (fault : StoreFault) → Plans a full change reserve z command
     → AreThere a change → NeverOnNamed {T = Bool} a change (Err fault) → EndsBy (Some fault) a b → KeepsPoint a b → Comes (Some fault) a b z r points
 judged_fault a b full change reserve z r command points fault p there never ends point =
-    comes_ended fault a b z r points (undamaged a z p.stands {T = Bool} change (Err fault) there never) ends point p.stands
+    comes_ended fault a b z r points (undamaged a z p.stands {T = Bool} change (Err fault) p.session.trees.tree there never) ends point p.stands
 
 module _ (a m : StoreState) (full : Bool) (change : Change) (reserve : ℕ) (z : State) (command : Asked) (p : Plans a full change reserve z command) (geometry : IsGeometry a.origin.request)
     (there : AreThere a change) (ends : EndsBy None a m) (point : KeepsPoint a m) (reads : KeepsWorking a m) (b : Bool) (fitting : IsFitting a change reserve b) where
@@ -256,7 +331,7 @@ module _ (a m : StoreState) (full : Bool) (change : Change) (reserve : ℕ) (z :
             → Comes (fault_in r) n last (point_taken z) (point_taken z) []
         once_more_looks (Ok y) still never_told ended kept keeps = comes_to n last (point_taken z) (point_taken z) kept.points refl (stands_still n last (point_taken z) ended kept keeps stands_then)
         once_more_looks {U = U} (Err fault) still never_told ended kept keeps =
-            comes_ended fault n last (point_taken z) (point_taken z) [] (undamaged n (point_taken z) stands_then {T = U} change (Err fault) still never_told) ended kept stands_then
+            comes_ended fault n last (point_taken z) (point_taken z) [] (undamaged n (point_taken z) stands_then {T = U} change (Err fault) (subst (λ (o : Origin). IsTree o.request z.tree) (sym origin_then) p.session.trees.tree) still never_told) ended kept stands_then
 
         pub once_more_fits : (r : Result Bool StoreFault) → AreThere n change → IfOk r (IsFitting n change reserve) → IfOk r (λ fit. fit ≡ judgement.fits)
         once_more_fits (Ok fit) still is =

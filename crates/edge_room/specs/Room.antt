@@ -12,7 +12,7 @@ use Rattle.edge_model.specs.State.{State, Edit, Plan}
 use Rattle.edge_model.specs.Step.{plan}
 use Rattle.edge_model.specs.Tree.{Tree}
 use Rattle.edge_space.specs.declared.change.Change.{Change}
-use Rattle.edge_space.specs.Changes.{writes_of, removes_of, need_of_change}
+use Rattle.edge_space.specs.Changes.{AreLeft, writes_of, removes_of, need_of_change}
 use Rattle.edge_steps.specs.Session.{IsSession}
 use Rattle.edge_stands.specs.Stands.{indices_at}
 use Rattle.edge_volume.specs.Volume.{StoreStands}
@@ -22,10 +22,12 @@ abbrev pub blocks_in : Request → Tree → ℕ → List ℕ
 blocks_in g t n = indices_at g (t n)
 
 -- A change and a reserve say what an edit does to the data positions of a tree: it writes those and removes those, in whatever order they
--- are listed, and leaves as many blocks free.
+-- are listed, and leaves as many blocks free. So many data blocks are left of a directory of which a slot is cleared.
 pub record NamesEdit (g : Request) (v : View) (t : Tree) (change : Change) (reserve : ℕ) (e : Edit) : Type 0 where
-  pub writes : (p : Position) → has e.writes p ≡ has (writes_of g v change) p
-  pub removes : (p : Position) → has e.removes p ≡ has (removes_of g v change (blocks_in g t)) p
+  pub left : ℕ
+  pub are_left : AreLeft g v change left
+  pub writes : (p : Position) → has e.writes p ≡ has (writes_of g v change left) p
+  pub removes : (p : Position) → has e.removes p ≡ has (removes_of g v change (blocks_in g t) left) p
   pub leaves : e.reserve ≡ reserve
 
 -- A store stands for a state of a session, whose mask asks for a point on a full volume where this is said, and a command of the state
@@ -44,5 +46,5 @@ pub record Plans (st : StoreState) (full : Bool) (change : Change) (reserve : �
 
 -- where it is said that there is room, as many blocks are free as a change takes and leaves
 abbrev pub HasRoomWhere : StoreState → Change → ℕ → Bool → Type 0
-HasRoomWhere st change reserve room = room ≡ true → Told st
-    → need_of_change st.origin.request st.committed st.working change + reserve ≤ free_now st.origin.request st.committed st.working
+HasRoomWhere st change reserve room = room ≡ true → Told st → (left : ℕ) → AreLeft st.origin.request st.working change left
+    → need_of_change st.origin.request st.committed st.working change left + reserve ≤ free_now st.origin.request st.committed st.working
