@@ -6,3 +6,5 @@ pub mod LookedLaws
 pub mod StatusLaws
 pub mod MadeLaws
 pub mod PathLaws
+pub mod ContentLaws
+pub mod ReadLaws

@@ -5,6 +5,7 @@
 mod descriptors;
 mod directory;
 mod handles;
+mod read;
 mod session;
 mod status;
 mod volume;
