@@ -8,3 +8,5 @@ pub mod MadeLaws
 pub mod PathLaws
 pub mod ContentLaws
 pub mod ReadLaws
+pub mod SlotLaws
+pub mod ReadDirLaws

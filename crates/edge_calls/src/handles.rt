@@ -1,16 +1,18 @@
 //! The descriptor that a command names, with its node, or why it is refused.
 
-ghost use Rattle.std.specs.Prelude.{◌≡◌, IfOk};
+ghost use Rattle.std.specs.Prelude.{◌≡◌, true, IfOk, OnOk, Ok};
 ghost use Rattle.edge_base.specs.commands.Refusals.{or_refuse};
 ghost use Rattle.edge_store.specs.State.{IsLive};
 ghost use Rattle.edge_model.specs.Open.{open_at, file_at, writable_at, directory_at};
 ghost use Rattle.edge_model.specs.State.{State};
+ghost use Rattle.edge_model.specs.Tree.{is_directory};
 ghost use Rattle.edge_volume.specs.Nodes.{OnTree, IsNodeOf, head_at};
 ghost use Rattle.edge_volume.specs.Parts.{Looks, IsOfNoDamage};
 ghost use Rattle.edge_volume.specs.Stopped.{fault_of, IfAnswered};
+ghost use Rattle.edge_walk.specs.Reached.{IsHolder};
 ghost use Rattle.edge_calls.specs.State.{described};
 
-use edge_base::{Head, Refusal};
+use edge_base::{Head, NodeType, Refusal};
 use edge_handles::{Handles, Slot};
 use edge_store::Store;
 use edge_volume::{Stop, node_head};
@@ -71,5 +73,22 @@ pub(crate) fn open_head<S: Store>(s: &mut S, n: u32) -> Result<Head, Stop>
     match node_head(s, n)? {
         Some(head) => Ok(head),
         None => Err(Stop::Refused(Refusal::BadDescriptor)),
+    }
+}
+
+/// The node of an open descriptor of a directory, which holds names. The descriptor is refused
+/// where the node is none, as it may be on a damaged image.
+pub(crate) fn open_holder<S: Store>(s: &mut S, n: u32) -> Result<(), Stop>
+    requires live { IsLive (S.state s.old) }
+    ensures looks { Looks S.Store (fault_of result) s.old s.new }
+    ensures undamaged { OnTree (S.state s.old) (λ t. IsOfNoDamage (fault_of result)) }
+    ensures holder { OnOk result (IsHolder (S.state s.new) n) }
+    ensures open { IfAnswered result (λ r. OnTree (S.state s.old)
+        (λ t. is_directory t n ≡ true → r ≡ Ok tt)) }
+{
+    let head = open_head(s, n)?;
+    match head.kind {
+        NodeType::Directory => Ok(()),
+        NodeType::File => Err(Stop::Refused(Refusal::BadDescriptor)),
     }
 }
