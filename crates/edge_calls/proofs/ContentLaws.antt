@@ -1,6 +1,6 @@
 -- What is read of a file of the tree that a store stands for.
-use Rattle.std.proofs.Common.{◌≡◌, ◌∙◌, ℕ, ◌+◌, ◌-◌, ◌/◌, ◌<◌, ◌≤◌, ◌==◌, not, Bool, true, false, List, [], ◌∷◌, ◌++◌, length, take, drop, min, unwrap_or, inl, inr, refl, sym, ap, arith, eq-eqb, append_assoc, length-drop, Option, Some, None}
-use Rattle.std.specs.Prelude.{slice_index, slice_index_or, Result, Ok, Err}
+use Rattle.std.proofs.Common.{◌≡◌, ◌∙◌, ℕ, ◌+◌, ◌-◌, ◌/◌, ◌<◌, ◌≤◌, ◌==◌, Bool, true, false, List, [], ◌∷◌, ◌++◌, length, take, drop, min, unwrap_or, inl, inr, refl, sym, ap, arith, eq-eqb, append_assoc, length-drop, Option, Some, None}
+use Rattle.std.specs.Prelude.{slice_index, slice_index_or, Result, Ok}
 use Rattle.std.specs.List.{list_any}
 use Rattle.std.proofs.lemmas.Bool.{false≢true, cases_Bool, cases_lt, or_left, or_right}
 use Rattle.std.proofs.lemmas.List.{take_all, take-append-le}
@@ -13,7 +13,7 @@ use Rattle.edge_base.specs.declared.refusal.Refusal.{Refusal}
 use Rattle.edge_base.specs.declared.refusal.Refusal.TheVariants as refusal
 use Rattle.edge_base.specs.layout.Places.{IsGeometry}
 use Rattle.edge_base.specs.tree.NodeRules.{IsFile}
-use Rattle.edge_base.specs.tree.Nodes.{Node, file, directory, indices_of, marked_from}
+use Rattle.edge_base.specs.tree.Nodes.{Node, file, indices_of, marked_from}
 use Rattle.edge_store.specs.Placed.{IsSized}
 use Rattle.edge_store.specs.State.{StoreState}
 use Rattle.edge_store.specs.View.{View, Inode, IsView, head_of_inode, is_whole}
@@ -35,7 +35,6 @@ use Rattle.edge_stands.proofs.StandingLaws.{each_sized}
 use Rattle.edge_steps.proofs.NodeLaws.{file_is}
 use Rattle.edge_volume.specs.Nodes.{head_at, head_of_some}
 use Rattle.edge_volume.specs.Volume.{VolumeState, StoreStands, VolumeStands, request_of}
-use Rattle.edge_calls.proofs.PlanLaws.{open_is_at}
 
 -- ---- a byte of an absent block is 0
 

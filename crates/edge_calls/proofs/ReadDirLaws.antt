@@ -6,13 +6,12 @@ use Rattle.edge_base.specs.commands.Refusals.{◌>>=◌, or_refuse, refuse_if}
 use Rattle.edge_base.specs.declared.geometry.Request.{Request}
 use Rattle.edge_base.specs.declared.refusal.Refusal.{Refusal}
 use Rattle.edge_base.specs.declared.refusal.Refusal.TheVariants as refusal
-use Rattle.edge_base.specs.tree.Slots.{Entry}
 use Rattle.edge_store.specs.declared.fault.StoreFault.{StoreFault}
 use Rattle.edge_store.specs.Calls.{KeepsPoint, KeepsWorking}
 use Rattle.edge_model.specs.declared.command.Answer.TheVariants as a
 use Rattle.edge_model.specs.Asked as command
 use Rattle.edge_model.specs.Open.{Filled, directory_at, first_filled, moved, plan_read_dir, read_dir_plan}
-use Rattle.edge_model.specs.State.{State, Plan, keeps}
+use Rattle.edge_model.specs.State.{State, keeps}
 use Rattle.edge_model.specs.Step.{plan}
 use Rattle.edge_model.specs.Tree.{Tree, is_directory, slots_at}
 use Rattle.edge_volume.specs.declared.stop.Stop.{Stop}

@@ -1,7 +1,7 @@
 -- What read does, at each of its ends.
-use Rattle.std.proofs.Common.{◌≡◌, ◌∙◌, ℕ, ◌+◌, ◌-◌, ◌<◌, ◌≤◌, not, Bool, true, false, List, [], ◌∷◌, length, drop, take, min, length-take, refl, sym, ap, arith, Option, Some, None}
+use Rattle.std.proofs.Common.{◌≡◌, ◌∙◌, ℕ, ◌+◌, ◌<◌, ◌≤◌, not, Bool, true, false, List, [], ◌∷◌, length, take, length-take, refl, sym, ap, arith, Some, None}
 use Rattle.std.specs.Prelude.{Result, Ok, Err}
-use Rattle.edge_base.specs.commands.Descriptors.{Descriptor, Descriptors, descriptor_at}
+use Rattle.edge_base.specs.commands.Descriptors.{Descriptor, descriptor_at}
 use Rattle.edge_base.specs.commands.Refusals.{◌>>=◌, or_refuse, refuse_if}
 use Rattle.edge_base.specs.declared.geometry.Request.{Request}
 use Rattle.edge_base.specs.declared.node.Head.{Head}
@@ -11,11 +11,10 @@ use Rattle.edge_store.specs.declared.fault.StoreFault.{StoreFault}
 use Rattle.edge_store.specs.Calls.{KeepsPoint, KeepsWorking}
 use Rattle.edge_model.specs.declared.command.Answer.TheVariants as a
 use Rattle.edge_model.specs.Asked as command
-use Rattle.edge_model.specs.Files.{content_of, plan_read, read_plan}
+use Rattle.edge_model.specs.Files.{plan_read, read_plan}
 use Rattle.edge_model.specs.Open.{file_at, moved}
 use Rattle.edge_model.specs.State.{State, Plan, keeps}
 use Rattle.edge_model.specs.Step.{plan}
-use Rattle.edge_model.specs.Tree.{Tree, node_at}
 use Rattle.edge_volume.specs.declared.stop.Stop.{Stop}
 use Rattle.edge_volume.specs.declared.stop.Stop.TheVariants.{Refused, Fault}
 use Rattle.edge_volume.specs.Stopped.{fault_of, IfAnswered}

@@ -5,7 +5,6 @@ use Rattle.edge_base.specs.declared.geometry.Request.{Request}
 use Rattle.edge_base.specs.outside.Below.{Origin}
 use Rattle.edge_dir.specs.Bounds.{IsSaidWithinAt}
 use Rattle.edge_dir.specs.Directory.{IsEntryIn, OnSlots}
-use Rattle.edge_slots.specs.Slot.{entry_of}
 use Rattle.edge_store.specs.declared.store.Store.{Ghosts as StoreGhosts}
 use Rattle.edge_model.specs.Tree.{slots_at}
 use Rattle.edge_volume.specs.Nodes.{OnTree}

@@ -1,16 +1,13 @@
-use Rattle.std.proofs.Common.{◌≡◌, ◌∙◌, ℕ, ◌+◌, ◌-◌, ◌<◌, ◌≤◌, ◌++◌, drop, take, length, min, length-take-le, Some, None, refl, sym, ap, subst, arith}
+use Rattle.std.proofs.Common.{◌≡◌, ◌∙◌, ℕ, ◌+◌, ◌-◌, ◌≤◌, ◌++◌, drop, take, length, min, length-take-le, Some, None, refl, sym, ap, subst, arith}
 use Rattle.std.specs.Prelude.{Ok, Err}
 use Rattle.std.proofs.lemmas.Bool.{not-true}
 use Rattle.std.proofs.lemmas.Result.{err_from_is_err_and}
-use Rattle.edge_base.specs.declared.node.Head.{Head}
 use Rattle.edge_base.specs.outside.Below.{Origin}
 use Rattle.edge_handles.specs.Table.{descriptor_of}
 use Rattle.edge_model.specs.Asked as command
 use Rattle.edge_model.specs.Rules.{IsTree}
-use Rattle.edge_model.specs.State.{State}
 use Rattle.edge_model.proofs.Changes.{not_false}
 use Rattle.edge_volume.specs.Did.{Did}
-use Rattle.edge_volume.specs.Volume.{StoreStands, VolumeStands}
 use Rattle.edge_volume.proofs.LookLaws.{looks_of_call, looks_on, looks_stands}
 use Rattle.edge_calls.specs.State.{volume_of}
 use Rattle.edge_calls.proofs.ContentLaws.{none_left, piece_left, file_sound}
