@@ -11,3 +11,7 @@ pub mod PlaceLaws
 pub mod WriteLaws
 pub mod SizingLaws
 pub mod CutLaws
+pub mod ContentLaws
+pub mod ReadLaws
+pub mod SlotLaws
+pub mod ReadDirLaws

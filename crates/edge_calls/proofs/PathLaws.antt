@@ -1,7 +1,7 @@
 -- What stat and opendir do, at each of their ends.
-use Rattle.std.proofs.Common.{◌≡◌, ◌∙◌, ℕ, ◌<◌, not, Bool, true, false, List, slice_set, is_some, unwrap_or, refl, sym, ap, Option, Some, None}
+use Rattle.std.proofs.Common.{◌≡◌, ◌∙◌, ℕ, ◌<◌, Bool, true, false, List, slice_set, is_some, unwrap_or, refl, sym, ap, Option, Some, None}
 use Rattle.std.specs.Prelude.{slice_get, Result, Ok, Err}
-use Rattle.edge_base.specs.commands.Descriptors.{Descriptor, Descriptors, first_empty, is_full, most_open}
+use Rattle.edge_base.specs.commands.Descriptors.{Descriptor, first_empty, is_full, most_open}
 use Rattle.edge_base.specs.commands.Refusals.{◌>>=◌, refuse_if}
 use Rattle.edge_base.specs.declared.geometry.Request.{Request}
 use Rattle.edge_base.specs.declared.node.Head.{Head}
@@ -11,11 +11,10 @@ use Rattle.edge_store.specs.declared.fault.StoreFault.{StoreFault}
 use Rattle.edge_store.specs.Calls.{KeepsPoint, KeepsWorking}
 use Rattle.edge_model.specs.declared.command.Answer.TheVariants as a
 use Rattle.edge_model.specs.Asked as command
-use Rattle.edge_model.specs.Asking.{HasOpened, with_open}
+use Rattle.edge_model.specs.Asking.{HasOpened}
 use Rattle.edge_model.specs.Open.{directory_descriptor, entered, plan_open_dir}
 use Rattle.edge_model.specs.State.{State, Plan, keeps}
 use Rattle.edge_model.specs.Step.{plan, plan_stat, status_of}
-use Rattle.edge_model.specs.Tree.{is_directory}
 use Rattle.edge_volume.specs.declared.stop.Stop.{Stop}
 use Rattle.edge_volume.specs.declared.stop.Stop.TheVariants.{Refused, Fault}
 use Rattle.edge_volume.specs.Stopped.{fault_of, IfAnswered}

@@ -1,3 +1,4 @@
 pub mod State
 pub mod Writes
 pub mod Sizes
+pub mod Entries

@@ -1,11 +1,9 @@
-use Rattle.std.proofs.Common.{◌≡◌, ◌∙◌, ℕ, ◌<◌, Bool, true, false, slice_set, Some, None, refl, sym, ap, subst}
-use Rattle.std.specs.Prelude.{slice_get, Ok, Err}
+use Rattle.std.proofs.Common.{◌≡◌, ◌∙◌, ℕ, Bool, true, false, None, refl, sym, ap, subst}
+use Rattle.std.specs.Prelude.{Ok, Err}
 use Rattle.std.proofs.lemmas.Result.{err_from_is_err_and}
-use Rattle.edge_base.specs.commands.Descriptors.{is_full, most_open, first_empty}
+use Rattle.edge_base.specs.commands.Descriptors.{is_full}
 use Rattle.edge_model.specs.declared.command.Answer.TheVariants as a
 use Rattle.edge_model.specs.Asked as command
-use Rattle.edge_model.specs.Open.{directory_descriptor}
-use Rattle.edge_volume.specs.Nodes.{OnTree}
 use Rattle.edge_volume.specs.Parts.{IsOfNoDamage}
 use Rattle.edge_volume.specs.Stopped.{fault_of}
 use Rattle.edge_volume.specs.Did.{Did}

@@ -3,7 +3,6 @@ use Rattle.std.specs.Prelude.{Ok, Err}
 use Rattle.std.proofs.lemmas.Result.{err_from_is_err_and}
 use Rattle.edge_base.specs.outside.Below.{Origin}
 use Rattle.edge_model.specs.Asked as command
-use Rattle.edge_volume.specs.declared.stop.Stop.TheVariants.{Fault}
 use Rattle.edge_volume.specs.Nodes.{OnTree, head_at}
 use Rattle.edge_volume.specs.Parts.{IsOfNoDamage}
 use Rattle.edge_volume.specs.Did.{Did}
