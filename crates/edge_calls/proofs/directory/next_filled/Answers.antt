@@ -66,7 +66,7 @@ loop-slot-preserved g c =
     let on = subst (λ entry. OnSlots (g.S.Store.state c.loop-slot.s) c.args.d (λ slots. IsEntryIn slots c.loop-slot.slot c.entry_at.new.name entry)) c.in-None.is call.entry in
     record {
       looks = looks_on g.S.Store None c.args.s.now c.loop-slot.s c.entry_at.new.s l.looks
-          (looks_of_call g.S.Store c.loop-slot.s c.entry_at.new.s (Ok c.in_ok-number.field-0) call.called call.point call.reads call.below call.clean);
+          (looks_of_call g.S.Store c.loop-slot.s c.entry_at.new.s (Ok c.in_ok-number.field-0) call.called call.point call.reads call.below call.clean call.damage);
       none = λ z stands tree.
           let here = entry_before g.S.Store c.args.s.now c.loop-slot.s l.looks c.args.d c.requires.holder c.loop-slot.slot c.entry_at.new.name None on z stands tree in
           let count = on_slots st c.args.d c.requires.holder.directory (λ slots. c.in_ok-count.count ≡ length slots) c.in_ok-count.ensures.count z stands tree in

@@ -61,7 +61,7 @@ returns-in_err-done-clause-did g c =
     let fault = c.in_err-done.field-0.0 in
     let d = descriptor_of c.in_ok-slot.slot in
     let looks = looks_on g.S.Store (Some fault) x m c.read_at.new.s looked.looks
-    (looks_of_call g.S.Store m c.read_at.new.s (Err fault) call.called call.point call.reads call.below call.clean) in
+    (looks_of_call g.S.Store m c.read_at.new.s (Err fault) call.called call.point call.reads call.below call.clean call.damage) in
     let p = err_from_is_err_and c.from_residual-in_err-done.result c.from_residual-in_err-done.ensures.1 in
     subst (λ r. Did (command.read c.args.h c.args.count) r old new out) (sym (p.1 ∙ ap Err p.2))
     (read_ended c.args.h c.args.count old new out refl refl fault looks.ends looks.point
@@ -86,7 +86,7 @@ returns-clause-did g c =
     let d = descriptor_of c.in_ok-slot.slot in
     let is_open = file_is_open c.args.self.now.handles c.args.h d c.in_ok-slot.ensures in
     let looks = looks_on g.S.Store None x m c.read_at.new.s looked.looks
-    (looks_of_call g.S.Store m c.read_at.new.s (Ok done) call.called call.point call.reads call.below call.clean) in
+    (looks_of_call g.S.Store m c.read_at.new.s (Ok done) call.called call.point call.reads call.below call.clean call.damage) in
     let count_is = c.from.ensures in
     let least : len ≡ min (c.in_ok-head.head.size - d.at) c.args.count = c.min-len.ensures ∙ ap (min (c.in_ok-head.head.size - d.at)) count_is in
     let most = c.requires.limits.1 in
