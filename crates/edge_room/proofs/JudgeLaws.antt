@@ -125,8 +125,11 @@ module _ (st : StoreState) (z : State) (stands : StoreStands st z) where
     where
       by : (node : Node) → z.tree d ≡ Some node → {head : Head} → Some (head_with st.origin.request (links_of st.origin.request z.tree d) node) ≡ Some head → head.kind ≡ Directory → IsSoundDirectory st d
       by (file content present) is same kind = absurd (let wrong : File ≡ Directory = ap (λ (h : Head). h.kind) (one_head _ _ same) ∙ kind in cc)
-      by (directory slots parent) is same kind = (slots, parent,
-          each_node st.origin.request st.working z.tree _ stands.views.working_is_view with_all d (directory slots parent) is (tree.nodes d (directory slots parent) is))
+      by (directory slots parent) is same kind = (
+        slots,
+        parent,
+        each_node st.origin.request st.working z.tree _ stands.views.working_is_view with_all d (directory slots parent) is (tree.nodes d (directory slots parent) is),
+      )
 
   put_shaped : (put : Option SlotAt) → IfSome put (λ at. IsNumber st at.dir × HasInode st at.dir) → IfSome put (λ at. IsShaped st.origin.request st.working at.dir)
   put_shaped None there = tt
