@@ -134,6 +134,14 @@ module _ {A : Type 0} (a : AskGhosts A) (before now after : A) where
   undamages (failed_at_end f) turns standing done s h d e = let n = standing refl s h in done refl n.0 n.1 d e
   undamages (failed_at_limit f) turns standing done s h d e = let n = standing refl s h in done refl n.0 n.1 d e
 
+  -- the damage that is told is there at the end
+  pub still_there : {how final : How} → Closes how final → ((d : Damage) → how ≡ Fault (Damaged d) → a.is_damage now d)
+      → (is_done how ≡ true → (d : Damage) → final ≡ Fault (Damaged d) → a.is_damage after d) → (is_done how ≡ false → after ≡ now)
+      → (d : Damage) → final ≡ Fault (Damaged d) → a.is_damage after d
+  still_there (kept how) turns done alone d e = subst (λ (x : A). a.is_damage x d) (sym (alone (ap is_done e))) (turns d e)
+  still_there (failed_at_end f) turns done alone d e = done refl d e
+  still_there (failed_at_limit f) turns done alone d e = done refl d e
+
   module _ (g : Request) (t : Tree) (script : List ℕ) (commands taken : ℕ) (most : Most) where
     -- the run over the lines taken
     abbrev over : How → Run

@@ -38,6 +38,7 @@ pub fn answer<A: Ask, C: Clock>(
         (A.damage ask.old) (A.damage ask.new) }
     ensures undamaged { (s : State) → A.stands_for ask.old s → (d : Damage)
         → result ≡ Err (Damaged d) → ⊥ }
+    ensures there { (d : Damage) → result ≡ Err (Damaged d) → A.is_damage ask.new d }
     ensures spells { OnErr result (is_some (command_in line.now) ≡ true) }
     ensures never_falls { A.reached ask.old ≤ A.reached ask.new }
     ensures two_points { A.reached ask.new ≤ A.reached ask.old + 2 }

@@ -56,6 +56,7 @@ fn serve<A: Ask, S: Source, K: Sink, C: Clock>(
         (A.damage ask.old) (A.damage ask.new) }
     ensures undamaged { (s : State) → A.stands_for ask.old s → (d : Damage)
         → result.how ≡ How.Fault (Damaged d) → ⊥ }
+    ensures there { (d : Damage) → result.how ≡ How.Fault (Damaged d) → A.is_damage ask.new d }
 
     ensures few { result.commands ≤ limit.lines }
     ensures short { result.taken ≤ limit.bytes }
@@ -118,6 +119,8 @@ fn close<A: Ask>(ask: &mut A, how: How) -> How
         (A.faults ask.new) (A.damage ask.old) (A.damage ask.new) }
     ensures undamaged { is_done how ≡ true → (s : State) → A.stands_for ask.old s
         → (d : Damage) → result ≡ How.Fault (Damaged d) → ⊥ }
+    ensures there { is_done how ≡ true → (d : Damage) → result ≡ How.Fault (Damaged d)
+        → A.is_damage ask.new d }
     ensures never_falls { A.reached ask.old ≤ A.reached ask.new }
     ensures one_point { A.reached ask.new ≤ A.reached ask.old + 1 }
     ensures closed { is_done how ≡ true → (s : State) → A.stands_for ask.old s
@@ -163,6 +166,7 @@ pub fn session<A: Ask, S: Source, K: Sink, C: Clock>(
         (A.damage ask.old) (A.damage ask.new) }
     ensures undamaged { (s : State) → A.stands_for ask.old s → (d : Damage)
         → result.how ≡ How.Fault (Damaged d) → ⊥ }
+    ensures there { (d : Damage) → result.how ≡ How.Fault (Damaged d) → A.is_damage ask.new d }
 
     ensures few { result.commands ≤ limit.lines }
     ensures short { result.taken ≤ limit.bytes }

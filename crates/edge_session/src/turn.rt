@@ -45,6 +45,8 @@ pub fn turn<A: Ask, S: Source, K: Sink, C: Clock>(
         (A.damage ask.old) (A.damage ask.new) }
     ensures undamaged { (s : State) → A.stands_for ask.old s → (d : Damage)
         → result ≡ Some (How.Fault (Damaged d)) → ⊥ }
+    ensures there { (d : Damage) → result ≡ Some (How.Fault (Damaged d))
+        → A.is_damage ask.new d }
 
     ensures used { used_of b.new.lines ≤ bytes }
     ensures room { takes_line result ≡ true → has_room ≡ true }

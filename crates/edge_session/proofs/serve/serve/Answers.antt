@@ -110,6 +110,9 @@ returns-in-Some-clause-undamaged g c = λ s stands damage is.
     let h = c.loop-commands.invariant.standing s stands in
     c.in-Some.ensures.undamaged h.0 h.1 damage (ap Some is)
 
+pub returns-in-Some-clause-there : goal.returns-in-Some-clause-there
+returns-in-Some-clause-there g c = λ damage is. c.in-Some.ensures.there damage (ap Some is)
+
 pub returns-in-Some-clause-room : goal.returns-in-Some-clause-room
 returns-in-Some-clause-room g c =
     last.has_room c.in-Some.how c.loop-commands.commands c.args.limit.lines (λ takes. ltb-true c.loop-commands.commands c.args.limit.lines (c.in-Some.ensures.room takes))

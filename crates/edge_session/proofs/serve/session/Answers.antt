@@ -24,6 +24,11 @@ returns-clause-undamaged g c =
     closing.undamages g.A.Ask c.args.ask.now c.serve-ended.new.ask c.close.new.ask (closing.closes c.serve-ended.result.how c.close.result c.close.ensures.as_it_was c.close.ensures.as_it_is)
     c.serve-ended.ensures.undamaged c.serve-ended.ensures.standing c.close.ensures.undamaged
 
+pub returns-clause-there : goal.returns-clause-there
+returns-clause-there g c =
+    closing.still_there g.A.Ask c.args.ask.now c.serve-ended.new.ask c.close.new.ask (closing.closes c.serve-ended.result.how c.close.result c.close.ensures.as_it_was c.close.ensures.as_it_is)
+    c.serve-ended.ensures.there c.close.ensures.there c.close.ensures.left_alone
+
 pub returns-clause-room : goal.returns-clause-room
 returns-clause-room g c = closing.room_of (closing.closes c.serve-ended.result.how c.close.result c.close.ensures.as_it_was c.close.ensures.as_it_is) _ _ c.serve-ended.ensures.room
 
