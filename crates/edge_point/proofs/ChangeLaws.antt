@@ -22,7 +22,7 @@ use Rattle.edge_anchor.proofs.KeepLaws.{shown_follows}
 use Rattle.edge_anchor.proofs.ViewLaws.{used_same}
 use Rattle.edge_point.specs.Changing.{Changes, HasWorking, TakesStep}
 use Rattle.edge_point.specs.Ended.{damage_after, ended}
-use Rattle.edge_point.specs.Seen.{IsGuarded, anchor_of, last_view, state_of}
+use Rattle.edge_point.specs.Seen.{IsGuarded, anchor_of, made_with, last_view, state_of}
 use Rattle.edge_phase.specs.Spared.{Spares}
 use Rattle.edge_point.specs.Standing.{IsPoint, IsTold}
 use Rattle.edge_point.specs.declared.parts.Parts.{Parts}
@@ -172,7 +172,7 @@ module _ {D : Type 0} (g : Ghosts D) where
       changed_called : {T : Type 0} (v : T) → IsPoint g (changed p q p.live p.damage) → SureIsShown (medium_of g q.cache)
           → g.faults q.cache.disk ≡ g.faults p.cache.disk → Called (state_of g p) (state_of g (changed p q p.live p.damage)) (Ok v)
       changed_called v point law passed = record {
-        origin = λ t. record { request = request; tells = tells t; others = (p.root.sequence - p.points) ∷ p.master.time ∷ [] };
+        origin = λ t. record { request = request; tells = tells t; others = (p.root.sequence - p.points) ∷ p.master.time ∷ made_with (c.origin t) };
         live = live;
         cause = record { later = omega (arith, passed); passed = (passed, refl); failed = λ fault h. absurd (cc h) };
         guarded = changed_guarded p.live p.damage point law (λ h. passed);
@@ -182,7 +182,7 @@ module _ {D : Type 0} (g : Ghosts D) where
           → g.faults p.cache.disk ≤ g.faults q.cache.disk → Because (g.faults p.cache.disk) (g.faults q.cache.disk) p.damage d (damage_of fault)
           → Called {T = T} (state_of g p) (state_of g (changed p q false d)) (Err fault)
       changed_failed fault d law later because = record {
-        origin = λ t. record { request = request; tells = tells t; others = (p.root.sequence - p.points) ∷ p.master.time ∷ [] };
+        origin = λ t. record { request = request; tells = tells t; others = (p.root.sequence - p.points) ∷ p.master.time ∷ made_with (c.origin t) };
         live = refl;
         cause = record {
           later = later;

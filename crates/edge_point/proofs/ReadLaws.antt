@@ -20,7 +20,7 @@ use Rattle.edge_anchor.specs.Anchor.{Anchor}
 use Rattle.edge_anchor.specs.Medium.{Follows, medium_of, none_given, shown_alone}
 use Rattle.edge_anchor.proofs.CutLaws.{SureIsShown, committed_alone}
 use Rattle.edge_anchor.proofs.KeepLaws.{follows_more, gives_follow, shown_follows}
-use Rattle.edge_point.specs.Seen.{IsGuarded, anchor_of, last_view, next_view, place_under, places_of, state_of}
+use Rattle.edge_point.specs.Seen.{IsGuarded, anchor_of, made_with, last_view, next_view, place_under, places_of, state_of}
 use Rattle.edge_phase.specs.Spared.{Spares}
 use Rattle.edge_point.specs.Standing.{IsPoint, IsTold}
 use Rattle.edge_point.specs.Steps.{KeepsRest}
@@ -160,7 +160,7 @@ module _ {D : Type 0} (g : Ghosts D) where
     pub seen_called : {T : Type 0} (v : T) → length q.block.items ≡ length p.block.items → SureIsShown (medium_of g q.cache)
         → g.faults q.cache.disk ≡ g.faults p.cache.disk → Called (state_of g p) (state_of g (seen p q p.live p.damage)) (Ok v)
     seen_called v block law passed = record {
-      origin = λ t. record { request = request; tells = tells t; others = (p.root.sequence - p.points) ∷ p.master.time ∷ [] };
+      origin = λ t. record { request = request; tells = tells t; others = (p.root.sequence - p.points) ∷ p.master.time ∷ made_with (reads.origin t) };
       live = live;
       cause = record { later = omega (arith, passed); passed = (passed, refl); failed = λ fault h. absurd (cc h) };
       guarded = seen_guarded block p.live p.damage is.undamaged law (λ h. passed);
@@ -170,7 +170,7 @@ module _ {D : Type 0} (g : Ghosts D) where
         → g.faults p.cache.disk ≤ g.faults q.cache.disk → Because (g.faults p.cache.disk) (g.faults q.cache.disk) p.damage d (damage_of fault)
         → Called {T = T} (state_of g p) (state_of g (seen p q false d)) (Err fault)
     seen_failed fault d block law later because = record {
-      origin = λ t. record { request = request; tells = tells t; others = (p.root.sequence - p.points) ∷ p.master.time ∷ [] };
+      origin = λ t. record { request = request; tells = tells t; others = (p.root.sequence - p.points) ∷ p.master.time ∷ made_with (reads.origin t) };
       live = refl;
       cause = record {
         later = later;

@@ -18,7 +18,7 @@ use Rattle.edge_anchor.specs.Anchor.{Anchor}
 use Rattle.edge_anchor.specs.Medium.{Follows, IsCommitted, medium_of, shown_alone}
 use Rattle.edge_anchor.proofs.CutLaws.{SureIsShown, committed_alone}
 use Rattle.edge_phase.specs.Phases.{MayCommit, OpensAsEither, Settles, next_of}
-use Rattle.edge_point.specs.Seen.{IsGuarded, anchor_of, last_view, next_view, places_of, state_of}
+use Rattle.edge_point.specs.Seen.{IsGuarded, anchor_of, last_view, made_with, next_view, places_of, state_of}
 use Rattle.edge_phase.specs.Spared.{block_given}
 use Rattle.edge_point.specs.Standing.{IsPoint}
 use Rattle.edge_point.specs.Steps.{KeepsRest}
@@ -97,7 +97,7 @@ module _ {D : Type 0} (g : Ghosts D) (p q : Parts D) (is : IsPoint g p) (live : 
         let points = is.points in
         let others : root.sequence - (p.points + 1) ≡ p.root.sequence - p.points = omega arith in
         record {
-          origin = λ t. record { request = p.master.geometry; tells = tells t; others = others t ∷ p.master.time ∷ [] };
+          origin = λ t. record { request = p.master.geometry; tells = tells t; others = others t ∷ p.master.time ∷ made_with (origin t) };
           live = live;
           cause = record { later = omega (arith, passed); passed = (passed, refl); failed = λ fault h. absurd (cc h) };
           guarded = taken_guarded;
@@ -155,7 +155,7 @@ module _ {D : Type 0} (g : Ghosts D) (p q : Parts D) (is : IsPoint g p) (live : 
 
     pub torn_called : {T : Type 0} → Called {T = T} (state_of g p) (state_of g (torn g p q)) (Err Device)
     torn_called = record {
-      origin = λ t. record { request = p.master.geometry; tells = tells t; others = (p.root.sequence - p.points) ∷ p.master.time ∷ [] };
+      origin = λ t. record { request = p.master.geometry; tells = tells t; others = (p.root.sequence - p.points) ∷ p.master.time ∷ made_with (origin t) };
       live = refl;
       cause = record {
         later = later;

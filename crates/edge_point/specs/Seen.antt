@@ -1,10 +1,11 @@
 -- What a store over a disk means, as a store.
-use Rattle.std.specs.Prelude.{◌≡◌, ◌⊎◌, ℕ, ◌-◌, ◌&&◌, Bool, true, false, if◌then◌else◌, [], ◌∷◌, Some, None, IsTrue}
+use Rattle.std.specs.Prelude.{◌≡◌, ◌⊎◌, ℕ, ◌-◌, ◌&&◌, Bool, true, false, if◌then◌else◌, List, [], ◌∷◌, Some, None, IsTrue}
 use Rattle.edge_base.specs.declared.geometry.Request.{Request}
 use Rattle.edge_base.specs.layout.Bitmap.{used_under}
 use Rattle.edge_base.specs.layout.Places.{inode_place_of}
 use Rattle.edge_base.specs.outside.Below.{Origin}
 use Rattle.edge_cache.specs.Calls.{content_in}
+use Rattle.edge_disk.specs.Disk.{Origin as DiskOrigin}
 use Rattle.edge_disk.specs.Image.{Image}
 use Rattle.edge_disk.specs.State.{EachCut, disk_of}
 use Rattle.edge_disk.specs.declared.disk.Disk.{Ghosts}
@@ -32,6 +33,10 @@ place_under g used n = inode_place_of g n (is_number g n && second_alone (used (
 -- the sequence number of the last point
 abbrev pub sequence_of : {D : Type 0} → Parts D → ℕ
 sequence_of p = p.root.sequence
+
+-- what the disk below was made with, as numbers
+abbrev pub made_with : DiskOrigin → List ℕ
+made_with o = o.blocks ∷ o.block_size ∷ (if o.keeps then 1 else 0) ∷ o.others
 
 module _ {D : Type 0} (g : Ghosts D) where
   -- the metaroot of the last point, with what it says over what the disk shows
@@ -70,9 +75,9 @@ module _ {D : Type 0} (g : Ghosts D) where
     -- whatever failed
     pub cut : EachCut (disk_of g p.cache.disk) (IsLeft p)
 
-  -- what it was made with: the geometry, the sequence number that was read, and the time of the master
+  -- what it was made with: the geometry, the sequence number that was read, the time of the master, and what the disk was made with
   abbrev pub origin_of : Parts D → Origin
-  origin_of p = record { request = p.master.geometry; tells = (g.origin p.cache.disk).shows; others = (p.root.sequence - p.points) ∷ p.master.time ∷ [] }
+  origin_of p = record { request = p.master.geometry; tells = (g.origin p.cache.disk).shows; others = (p.root.sequence - p.points) ∷ p.master.time ∷ made_with (g.origin p.cache.disk) }
 
   abbrev pub state_of : Parts D → StoreState
   state_of p =
