@@ -1,14 +1,23 @@
--- An image whose view stands for a tree opens to it.
-use Rattle.std.proofs.Common.{◌≡◌, ◌≢◌, ◌≤◌, ◌^◌, ℕ, Option, Some, None, refl, sym, ap, ◌∙◌, subst}
+-- An image whose view stands for a tree opens to it, and has the room that the tree leaves.
+use Rattle.std.proofs.Common.{◌≡◌, ◌≢◌, ◌≤◌, ◌+◌, ◌^◌, ◌&&◌, ℕ, Bool, true, false, not, cond, Option, Some, None, refl, sym, ap, ◌∙◌, subst}
+use Rattle.std.specs.Prelude.{is_some, nat_le, nat_lt}
+use Rattle.std.proofs.lemmas.Bool.{and_from, le-leb, lt-ltb}
 use Rattle.edge_base.specs.declared.damage.Damage.{Damage}
 use Rattle.edge_base.specs.declared.geometry.Request.{Request}
+use Rattle.edge_base.specs.layout.Places.{first_allocable_of, allocable_of}
 use Rattle.edge_base.specs.tree.Nodes.{Node}
+use Rattle.edge_base.specs.tree.Positions.{count_of}
 use Rattle.edge_disk.specs.Image.{Image}
-use Rattle.edge_store.specs.View.{View, broken}
+use Rattle.edge_store.specs.View.{View, Block, broken, free_after, is_allocable, is_used}
+use Rattle.edge_store.proofs.CountLaws.{free_after-positions}
 use Rattle.edge_model.specs.Rules.{IsTree}
-use Rattle.edge_model.specs.Tree.{Tree}
+use Rattle.edge_model.specs.Tree.{Tree, tree_positions}
+use Rattle.edge_image.specs.Image.{Live, free_blocks_of, is_unused, used_in}
 use Rattle.edge_image.specs.Opens.{OpensTo, StandsFor}
+use Rattle.edge_image.specs.View.{block_told, view_of}
+use Rattle.edge_image.proofs.AlikeLaws.{count_alike}
 use Rattle.edge_image.proofs.ReasonLaws.{mountable}
+use Rattle.edge_image.proofs.RoomLaws.{occupied, view_allocable}
 use Rattle.edge_anchor.specs.Anchor.{Anchor, geometry_of, live_by}
 use Rattle.edge_anchor.specs.Opens.{OpensAs}
 use Rattle.edge_anchor.proofs.OpenLaws.{opens_mounted}
@@ -33,3 +42,30 @@ opens_to_tree a v image t is sequence room tree stands = record {
   tree = tree;
   stands = subst (λ (x : View). StandsFor (geometry_of a) x t) (sym is.view) stands;
 }
+
+-- ---- room
+
+is_there : (t : Bool) (block : Block) → is_some (cond t (Some block) None) ≡ t
+is_there true block = refl
+is_there false block = refl
+
+-- an allocable block is used in the view exactly where its bit is set
+same_use : (g : Request) (image : Image) (live : Live) (b : ℕ) → is_allocable g b ≡ true → used_in g image live b ≡ is_used (view_of g image live) b
+unfolding view_of
+same_use g image live b allocable =
+    sym (is_there (is_allocable g b && used_in g image live b) (block_told g (image.block b)) ∙ ap (λ t. t && used_in g image live b) allocable)
+
+same_free : (g : Request) (image : Image) (live : Live) → free_blocks_of g (used_in g image live) ≡ free_after g (view_of g image live)
+unfolding free_after
+same_free g image live =
+    count_alike (is_unused (used_in g image live)) (λ b. not (is_used (view_of g image live) b)) (first_allocable_of g) (allocable_of g)
+    (λ b from below. ap not (same_use g image live b
+    (and_from (nat_le (first_allocable_of g) b) (nat_lt b (first_allocable_of g + allocable_of g)) (le-leb (first_allocable_of g) b from) (lt-ltb b (first_allocable_of g + allocable_of g) below))))
+
+pub room_of_tree : (a : Anchor) (v : View) (image : Image) (t : Tree) → OpensAs a v image → StandsFor (geometry_of a) v t
+    → a.root.free_blocks + count_of (tree_positions (geometry_of a) t) ≡ allocable_of (geometry_of a)
+room_of_tree a v image t is stands =
+    let g = geometry_of a in
+    let there : StandsFor g (view_of g image (live_by a)) t = subst (λ (x : View). StandsFor g x t) (sym is.view) stands in
+    ap (λ (n : ℕ). n + count_of (tree_positions g t)) (is.free_blocks ∙ same_free g image (live_by a))
+    ∙ free_after-positions g (view_of g image (live_by a)) (tree_positions g t) (occupied g (view_of g image (live_by a)) t (view_allocable g image (live_by a)) there)

@@ -1,7 +1,9 @@
 //! Laws over the definitions of `specs/`: functions without effects.
-ghost use Rattle.std.specs.Prelude.{◌≡◌, ◌≢◌, ◌<◌, ◌≤◌, ◌^◌, ℕ, List, Ok};
+ghost use Rattle.std.specs.Prelude.{◌≡◌, ◌≢◌, ◌<◌, ◌≤◌, ◌^◌, ℕ, ◌+◌, List, Ok};
 ghost use Rattle.edge_base.specs.declared.node.Metaroot.{Metaroot};
+ghost use Rattle.edge_base.specs.layout.Places.{allocable_of};
 ghost use Rattle.edge_base.specs.layout.Spelling.{master_in};
+ghost use Rattle.edge_base.specs.tree.Positions.{count_of};
 ghost use Rattle.edge_cache.specs.Cached.{Cached};
 ghost use Rattle.edge_cache.specs.Calls.{GivesTo};
 ghost use Rattle.edge_cache.specs.Given.{except, waiting};
@@ -9,7 +11,7 @@ ghost use Rattle.edge_disk.specs.Disk.{Origin};
 ghost use Rattle.edge_disk.specs.Image.{Image};
 ghost use Rattle.edge_store.specs.View.{View};
 ghost use Rattle.edge_model.specs.Rules.{IsTree};
-ghost use Rattle.edge_model.specs.Tree.{Tree};
+ghost use Rattle.edge_model.specs.Tree.{Tree, tree_positions};
 ghost use Rattle.edge_image.specs.Opens.{OpensTo, StandsFor};
 ghost use Rattle.edge_anchor.specs.Anchor.{Anchor, HangsOn, IsNext, IsOn, Needs, geometry_of, spare_of, view_at};
 ghost use Rattle.edge_anchor.specs.Medium.{Follows, IsCommitted, medium_of, none_given, shown_alone};
@@ -82,9 +84,13 @@ pub fn the_next_point_is_on_the_disk()
 {}
 
 /// An image that opens by an anchor, with a view that stands for a tree, opens to that tree, where
-/// its sequence number is not too great and it has room.
+/// its sequence number is not too great and it has room. Its room is what the tree leaves.
 pub fn an_image_that_opens_has_its_tree()
-    ensures { (a : Anchor) (v : View) (image : Image) (t : Tree) → OpensAs a v image
+    ensures tree { (a : Anchor) (v : View) (image : Image) (t : Tree) → OpensAs a v image
         → a.root.sequence ≤ 2 ^ 63 → 3 ≤ a.root.free_blocks
         → IsTree (geometry_of a) t → StandsFor (geometry_of a) v t → OpensTo image t }
+    ensures room { (a : Anchor) (v : View) (image : Image) (t : Tree) → OpensAs a v image
+        → StandsFor (geometry_of a) v t
+        → a.root.free_blocks + count_of (tree_positions (geometry_of a) t)
+        ≡ allocable_of (geometry_of a) }
 {}

@@ -77,7 +77,11 @@ module _ {D : Type 0} (g : Ghosts D) where
 
   -- what it was made with: the geometry, the sequence number that was read, the time of the master, and what the disk was made with
   abbrev pub origin_of : Parts D → Origin
-  origin_of p = record { request = p.master.geometry; tells = (g.origin p.cache.disk).shows; others = (p.root.sequence - p.points) ∷ p.master.time ∷ made_with (g.origin p.cache.disk) }
+  origin_of p = record {
+    request = p.master.geometry;
+    tells = (g.origin p.cache.disk).shows;
+    others = (p.root.sequence - p.points) ∷ p.master.time ∷ made_with (g.origin p.cache.disk);
+  }
 
   abbrev pub state_of : Parts D → StoreState
   state_of p =
