@@ -5,10 +5,12 @@
 mod descriptors;
 mod directory;
 mod handles;
+mod make;
 mod read;
 mod resize;
 mod session;
 mod status;
+mod vacant;
 mod volume;
 mod write;
 
