@@ -1,4 +1,4 @@
--- Room to clear a slot, after an entry was put into another: where there was room for both, there is room for that then.
+-- Room to put an entry into a slot, and then to clear another: where there is room for both, there is room for the one and then for the other.
 use Rattle.std.proofs.Common.{◌≡◌, ◌≢◌, ◌∙◌, ℕ, ◌+◌, ◌*◌, ◌/◌, ◌%◌, ◌==◌, ◌<◌, ◌≤◌, ◌&&◌, ◌||◌, not, Bool, true, false, cond, max, inl, inr, List, [], ◌∷◌, length, Some, None, refl, sym, ap, subst, arith}
 use Rattle.std.specs.Prelude.{is_some, nat_le, nat_lt}
 use Rattle.std.specs.List.{filter}
@@ -22,18 +22,20 @@ use Rattle.edge_store.specs.Placed.{block_at, HasNode}
 use Rattle.edge_store.specs.State.{StoreState}
 use Rattle.edge_store.specs.View.{View, IsView, entries_of_inode, free_now, is_new, is_used, is_whole}
 use Rattle.edge_moves.specs.Sound.{numbered}
+use Rattle.edge_moves.specs.Writable.{fresh_on_chain}
 use Rattle.edge_shape.specs.Shape.{HasShape}
 use Rattle.edge_shape.specs.Where.{cut_need}
 use Rattle.edge_shape.proofs.ListLaws.{any_of, any-filter, found, is_false}
 use Rattle.edge_shape.proofs.RenewLaws.{node_used}
 use Rattle.edge_count.specs.Cuts.{removed}
 use Rattle.edge_count.specs.Frames.{AreApart, AreOfOrKept, KeepsBlocks}
-use Rattle.edge_count.proofs.JoinLaws.{renewed_rest, same_named}
+use Rattle.edge_count.proofs.JoinLaws.{chain_part, renewed_rest, same_named}
 use Rattle.edge_count.proofs.KeptLaws.{keeps_blocks}
 use Rattle.edge_count.proofs.WriteLaws.{any_map}
 use Rattle.edge_count.proofs.WriteStepLaws.{RenewsChain}
 use Rattle.edge_file.specs.Bytes.{blocks_under}
 use Rattle.edge_file.specs.Rewritten.{fresh_on, IsRewritten}
+use Rattle.edge_file.specs.Writing.{RoomForBytes}
 use Rattle.edge_file.proofs.BlockLaws.{alone, fresh_on-chain}
 use Rattle.edge_file.proofs.JoinLaws.{fresh_on-alike, rewritten-alike}
 use Rattle.edge_file.proofs.RangeLaws.{block_alone, lists}
@@ -57,6 +59,13 @@ pub slot_alone : (g : Request) (k len : ℕ) → IsWithinLimits g → k / slots_
 slot_alone g k len limits low some short =
     let within = slot_within g (k % slots_in_block g) (mod-lt k (some_slots g limits)) in
     block_alone g (k / slots_in_block g) (k % slots_in_block g * (4 + g.name_max)) len low some (omega (arith, within, short))
+
+-- so they make the chain of that block dirty
+slot_fresh : (g : Request) (c v : View) (d k len : ℕ) → IsWithinLimits g → k / slots_in_block g < max_blocks_of g → 0 < len → len ≤ 4 + g.name_max
+    → fresh_on g c v d (blocks_under g (place_of_slot g k) len) ≡ fresh_on_chain g c v d (k / slots_in_block g)
+slot_fresh g c v d k len limits low some short =
+    sym (fresh_on-alike g c v v d (k / slots_in_block g ∷ []) (blocks_under g (place_of_slot g k) len) [] (slot_alone g k len limits low some short))
+    ∙ fresh_on-chain g c v d (k / slots_in_block g)
 
 -- a data block made new and written makes its chain new
 pub rewritten_renews : (g : Request) (c v w : View) (n i : ℕ) (indices : List ℕ) → IsGeometry g → IsView g w → is_whole (w.inodes n) ≡ true
@@ -118,14 +127,12 @@ written_number true n k p h = ap (λ (r : Position). r.number) ((same_position_D
     one false e = e
 written_number false n k p h = absurd (let e : false ≡ true = h in cc)
 
--- ---- after the put
+-- ---- the put, and the room that is left after it
 
--- So many blocks are left of the directory of slot `clear`, which has slots `is.held` in w. The block of slot `put` was written.
-module _ (g : Request) (c v w : View) (put clear : SlotAt) (left parent : ℕ) (indices : List ℕ) (geometry : IsGeometry g) (limits : IsWithinLimits g) (view : IsView g v) (view_w : IsView g w)
+-- An entry is put into slot `put`, and then slot `clear` is cleared: so many blocks of its directory are left.
+module _ (g : Request) (c v : View) (put clear : SlotAt) (left : ℕ) (geometry : IsGeometry g) (limits : IsWithinLimits g) (view : IsView g v)
     (low_put : block_of_slot g put < max_blocks_of g) (low_clear : block_of_slot g clear < max_blocks_of g) (is : IsCleared g v (Some put) clear left)
-    (then : HasNode g w clear.dir (directory is.held parent))
-    (shape : HasShape g v put.dir indices) (whole : is_whole (w.inodes put.dir) ≡ true) (made : IsRewritten g c v w put.dir (block_of_slot g put ∷ []) indices)
-    (other : put.dir ≢ clear.dir → AreApart g v put.dir clear.dir) where
+    (room : need_of_change g c v (change.Slots (Some put) (Some clear)) left ≤ free_now g c v) where
   abbrev i : ℕ
   i = block_of_slot g put
 
@@ -135,11 +142,14 @@ module _ (g : Request) (c v w : View) (put clear : SlotAt) (left parent : ℕ) (
   abbrev had : List ℕ
   had = indices_of g (directory is.slots is.parent)
 
-  abbrev has_then : List ℕ
-  has_then = indices_of g (directory is.held parent)
-
   abbrev writes : List Position
   writes = cond (nat_lt at left) (data_at clear.dir at ∷ []) []
+
+  abbrev removes : List Position
+  removes = removed clear.dir left had
+
+  all_fit : fresh_count g c v (data_at put.dir i ∷ writes) removes ≤ free_now g c v
+  all_fit = let both = both_count g c v put clear had left geometry limits view low_put low_clear is refl in omega (arith, both, room)
 
   -- the block of the slot that is put is left
   put_left : put.dir ≡ clear.dir → i < left
@@ -149,7 +159,7 @@ module _ (g : Request) (c v w : View) (put clear : SlotAt) (left parent : ℕ) (
       let e : left ≡ max blocks (i + 1) = one.is_left ∙ cond-true (put.dir == clear.dir) _ _ (eq-eqb put.dir clear.dir same) in
       omega (arith, e)
 
-  stays : has (removed clear.dir left had) (data_at put.dir i) ≡ false
+  stays : has removes (data_at put.dir i) ≡ false
   stays = is_false _ (λ h.
       let r = removed_from clear.dir left had (data_at put.dir i) h in
       let same : put.dir ≡ clear.dir = ap (λ (p : Position). p.number) r.3 in
@@ -158,70 +168,84 @@ module _ (g : Request) (c v w : View) (put clear : SlotAt) (left parent : ℕ) (
       let late = r.2 in
       omega (arith, here, early, late))
 
-  of_directory : (ps : List Position) → ((p : Position) → has ps p ≡ true → p.number ≡ clear.dir) → AreOfOrKept g v w put.dir ps
-  of_directory ps number p h = elim (cases_eq put.dir clear.dir) [
-    | inl same ↦ inl (number p h ∙ sym same)
-    | inr apart ↦
-        inr
-        (subst (λ (m : ℕ). KeepsBlocks g v w m) (sym (number p h))
-        (rewritten_keeps g c v w put.dir clear.dir (i ∷ []) indices had (record { geometry = geometry; view = view; inode = ap is_whole is.node.inode; places = is.node.holds.places; once = is.node.once })
-        view_w (other apart) (λ e. apart (sym e)) made))
-  ]
+  -- there is room for the put
+  pub put_fits : fresh_on_chain g c v put.dir i ≤ free_now g c v
+  put_fits = let part = chain_part g c v put.dir i low_put writes removes stays in let fits = all_fit in omega (arith, part, fits)
 
-  -- how long the slots are then, and which blocks they have
-  long : (put.dir ≡ clear.dir) → length is.held ≡ max (length is.slots) (put.slot + 1)
-  long same = let held = is.is_held.0 same in length_filled is.slots is.held put.slot held.0 is.node.rules.last_filled then.rules.last_filled held.1
+  -- Its block was written, and the directory of slot `clear` has slots `is.held` then.
+  module _ (w : View) (parent : ℕ) (indices : List ℕ) (view_w : IsView g w) (then : HasNode g w clear.dir (directory is.held parent))
+      (shape : HasShape g v put.dir indices) (whole : is_whole (w.inodes put.dir) ≡ true) (made : IsRewritten g c v w put.dir (i ∷ []) indices)
+      (other : put.dir ≢ clear.dir → AreApart g v put.dir clear.dir) where
+    abbrev has_then : List ℕ
+    has_then = indices_of g (directory is.held parent)
 
-  in_range : clear.slot < length is.held
-  in_range = elim (cases_eq put.dir clear.dir) [
-    | inl same ↦ let all = long same in let inside = is.in_range in omega (arith, all, inside)
-    | inr apart ↦ subst (λ (l : Slots). clear.slot < length l) (sym (is.is_held.1 apart)) is.in_range
-  ]
+    shape_clear : HasShape g v clear.dir had
+    shape_clear = record { geometry = geometry; view = view; inode = ap is_whole is.node.inode; places = is.node.holds.places; once = is.node.once }
 
-  same_late : (x : ℕ) → left ≤ x → has_index had x ≡ has_index has_then x
-  same_late x late = range_has (slot_blocks g is.slots) x ∙ both ∙ sym (range_has (slot_blocks g is.held) x)
-    where
-      more : (a b i x left : ℕ) → b ≡ max a (i + 1) → i < left → left ≤ x → nat_lt x a ≡ nat_lt x b
-      more a b i x left e early late = grind (arith, nat_tests)
+    of_directory : (ps : List Position) → ((p : Position) → has ps p ≡ true → p.number ≡ clear.dir) → AreOfOrKept g v w put.dir ps
+    of_directory ps number p h = elim (cases_eq put.dir clear.dir) [
+      | inl same ↦ inl (number p h ∙ sym same)
+      | inr apart ↦
+          inr
+          (subst (λ (m : ℕ). KeepsBlocks g v w m) (sym (number p h))
+          (rewritten_keeps g c v w put.dir clear.dir (i ∷ []) indices had shape_clear view_w (other apart) (λ e. apart (sym e)) made))
+    ]
 
-      both : nat_lt x (slot_blocks g is.slots) ≡ nat_lt x (slot_blocks g is.held)
-      both = elim (cases_eq put.dir clear.dir) [
-        | inl same ↦
-            more (slot_blocks g is.slots) (slot_blocks g is.held) i x left
-            (blocks_filled (slots_in_block g) put.slot (length is.slots) (length is.held) (some_slots g limits) (long same)) (put_left same) late
-        | inr apart ↦ ap (λ (l : Slots). nat_lt x (slot_blocks g l)) (sym (is.is_held.1 apart))
-      ]
+    -- how long the slots are then, and which blocks they have
+    long : put.dir ≡ clear.dir → length is.held ≡ max (length is.slots) (put.slot + 1)
+    long same = let held = is.is_held.0 same in length_filled is.slots is.held put.slot held.0 is.node.rules.last_filled then.rules.last_filled held.1
 
-  -- the clearing alone, then
-  abbrev cleared_then : IsCleared g w None clear left
-  cleared_then = record {
-    slots = is.held;
-    parent = parent;
-    node = then;
-    in_range = in_range;
-    held = is.held;
-    is_held = refl;
-    apart = tt;
-    after = is.after;
-    after_trimmed = is.after_trimmed;
-    is_cleared = is.is_cleared;
-    left_are = is.left_are;
-  }
+    in_range : clear.slot < length is.held
+    in_range = elim (cases_eq put.dir clear.dir) [
+      | inl same ↦ let all = long same in let inside = is.in_range in omega (arith, all, inside)
+      | inr apart ↦ subst (λ (l : Slots). clear.slot < length l) (sym (is.is_held.1 apart)) is.in_range
+    ]
 
-  count_then : fresh_count g c w writes (removed clear.dir left had) ≡ clear_need g c w clear left
-  count_then =
-      same_named g c w writes writes (removed clear.dir left had) (removed clear.dir left has_then) (λ p. refl) (same_removed clear.dir left had has_then same_late)
-      ∙ clear_count g c w None clear has_then left geometry limits view_w low_clear cleared_then refl
+    same_late : (x : ℕ) → left ≤ x → has_index had x ≡ has_index has_then x
+    same_late x late = range_has (slot_blocks g is.slots) x ∙ both ∙ sym (range_has (slot_blocks g is.held) x)
+      where
+        more : (a b i x left : ℕ) → b ≡ max a (i + 1) → i < left → left ≤ x → nat_lt x a ≡ nat_lt x b
+        more a b i x left e early late = grind (arith, nat_tests)
 
-  -- where there was room for both, there is room for it
-  pub need_left : need_of_change g c v (change.Slots (Some put) (Some clear)) left ≤ free_now g c v → clear_need g c w clear left ≤ free_now g c w
-  need_left room =
-      let before = both_count g c v put clear had left geometry limits view low_put low_clear is refl in
-      let rest = renewed_rest g c v w put.dir i 0 indices writes (removed clear.dir left had) shape low_put (rewritten_renews g c v w put.dir i indices geometry view_w whole made)
-      (of_directory writes (written_number (nat_lt at left) clear.dir at)) (of_directory (removed clear.dir left had) (λ p h. ap (λ (r : Position). r.number) (removed_from clear.dir left had p h).3)) stays
-      (omega (arith, before, room)) in
-      let now = count_then in
-      omega (arith, rest, now)
+        both : nat_lt x (slot_blocks g is.slots) ≡ nat_lt x (slot_blocks g is.held)
+        both = elim (cases_eq put.dir clear.dir) [
+          | inl same ↦
+              more (slot_blocks g is.slots) (slot_blocks g is.held) i x left
+              (blocks_filled (slots_in_block g) put.slot (length is.slots) (length is.held) (some_slots g limits) (long same)) (put_left same) late
+          | inr apart ↦ ap (λ (l : Slots). nat_lt x (slot_blocks g l)) (sym (is.is_held.1 apart))
+        ]
+
+    -- the clearing alone, then
+    abbrev cleared_then : IsCleared g w None clear left
+    cleared_then = record {
+      slots = is.held;
+      parent = parent;
+      node = then;
+      in_range = in_range;
+      held = is.held;
+      is_held = refl;
+      apart = tt;
+      after = is.after;
+      after_trimmed = is.after_trimmed;
+      is_cleared = is.is_cleared;
+      left_are = is.left_are;
+    }
+
+    count_then : fresh_count g c w writes removes ≡ clear_need g c w clear left
+    count_then =
+        same_named g c w writes writes removes (removed clear.dir left has_then) (λ p. refl) (same_removed clear.dir left had has_then same_late)
+        ∙ clear_count g c w None clear has_then left geometry limits view_w low_clear cleared_then refl
+
+    -- and there is room for the clearing
+    pub clear_fits : clear_need g c w clear left ≤ free_now g c w
+    clear_fits =
+        let renews = rewritten_renews g c v w put.dir i indices geometry view_w whole made in
+        let all = all_fit in
+        let rest = renewed_rest g c v w put.dir i 0 indices writes removes shape low_put renews
+        (of_directory writes (written_number (nat_lt at left) clear.dir at))
+        (of_directory removes (λ p h. ap (λ (r : Position). r.number) (removed_from clear.dir left had p h).3)) stays (omega (arith, all)) in
+        let now = count_then in
+        omega (arith, rest, now)
 
 -- ---- in a store
 
@@ -241,29 +265,31 @@ need_is : (g : Request) (c w : View) (clear : SlotAt) (after : Slots) → IsWith
     → clear_need g c w clear (slot_blocks g after) ≡ need_in g c w clear after
 need_is g c w clear after limits low =
     ap (λ (m : ℕ). cond (nat_lt (block_of_slot g clear) (slot_blocks g after)) m (cut_need g c w clear.dir (slot_blocks g after)))
-    (sym (fresh_on-chain g c w clear.dir (block_of_slot g clear))
-    ∙ fresh_on-alike g c w w clear.dir (block_of_slot g clear ∷ []) (blocks_under g (place_of_slot g clear.slot) (4 + g.name_max)) [] (slot_alone g clear.slot (4 + g.name_max) limits low (omega arith) (omega arith)))
+    (sym (slot_fresh g c w clear.dir clear.slot (4 + g.name_max) limits low (omega arith) (omega arith)))
 
--- Bytes were written into slot `put`, one that a directory has or a new one, so many from its first on. By that the directory of slot `clear`,
--- which is the same or another, has come to have the slots `held`. Where there was room to put the one and to clear the other, there is room
--- to clear that, so that the slots `after` are left.
-module _ (old mid : StoreState) (put clear : SlotAt) (len : ℕ) (slots held after into : Slots) (parent then into_parent : ℕ)
-    (origin : mid.origin ≡ old.origin) (committed : mid.committed ≡ old.committed)
-    (geometry : IsGeometry old.origin.request) (limits : IsWithinLimits old.origin.request) (view : IsView old.origin.request old.working) (view_mid : IsView old.origin.request mid.working)
-    (within : IsWithin old.origin.request (change.Slots (Some put) (Some clear)))
+-- An entry is put into slot `put`, one that its directory has or a new one, by bytes that are written from its first on. By that the directory
+-- of slot `clear`, which is the same or another, comes to have the slots `held`; then that slot is cleared, and `after` are left. There is
+-- room for both.
+module _ (old : StoreState) (put clear : SlotAt) (len : ℕ) (slots held after : Slots) (parent : ℕ)
+    (geometry : IsGeometry old.origin.request) (limits : IsWithinLimits old.origin.request) (view : IsView old.origin.request old.working)
+    (within : IsWithin old.origin.request (change.Slots (Some put) (Some clear))) (some : 0 < len) (short : len ≤ 4 + old.origin.request.name_max)
     (node : HasNode old.origin.request old.working clear.dir (directory slots parent)) (in_range : clear.slot < length slots)
-    (put_node : HasNode old.origin.request old.working put.dir (directory into into_parent))
-    (other : put.dir ≢ clear.dir → AreApart old.origin.request old.working put.dir clear.dir)
-    (is_held : IsPutInto (Some put) clear.dir slots held) (apart : put.dir ≡ clear.dir → put.slot ≢ clear.slot) where
+    (is_held : IsPutInto (Some put) clear.dir slots held) (apart : put.dir ≡ clear.dir → put.slot ≢ clear.slot)
+    (trim : trimmed after ≡ after) (is_cleared : IsSetTo held after clear.slot None)
+    (room : (left : ℕ) → AreLeft old.origin.request old.working (change.Slots (Some put) (Some clear)) left
+    → need_of_change old.origin.request old.committed old.working (change.Slots (Some put) (Some clear)) left
+    ≤ free_now old.origin.request old.committed old.working) where
   abbrev g : Request
   g = old.origin.request
 
   abbrev c : View
   c = old.committed
 
-  -- how many blocks are left
-  abbrev is_left : trimmed after ≡ after → IsSetTo held after clear.slot None → IsCleared g old.working (Some put) clear (slot_blocks g after)
-  is_left trim is_cleared = record {
+  abbrev v : View
+  v = old.working
+
+  abbrev is : IsCleared g v (Some put) clear (slot_blocks g after)
+  is = record {
     slots = slots;
     parent = parent;
     node = node;
@@ -277,20 +303,26 @@ module _ (old mid : StoreState) (put clear : SlotAt) (len : ℕ) (slots held aft
     left_are = refl;
   }
 
-  pub room_to_clear : 0 < len → len ≤ 4 + g.name_max → IsRewritten g c old.working mid.working put.dir (blocks_under g (place_of_slot g put.slot) len) (indices_of g (directory into into_parent))
+  -- So there is room for the put first,
+  pub room_to_put_first : RoomForBytes old put.dir (place_of_slot g put.slot) len
+  room_to_put_first =
+      subst (λ (m : ℕ). m ≤ free_now g c v) (sym (slot_fresh g c v put.dir put.slot len limits within.0 some short))
+      (put_fits g c v put clear (slot_blocks g after) geometry limits view within.0 within.1 is (room (slot_blocks g after) is))
+
+  -- and in the store then there is room left for the clearing.
+  pub room_left_to_clear : (mid : StoreState) (into : Slots) (into_parent then : ℕ) → mid.origin ≡ old.origin → mid.committed ≡ old.committed → IsView g mid.working
+      → HasNode g v put.dir (directory into into_parent) → (put.dir ≢ clear.dir → AreApart g v put.dir clear.dir)
+      → IsRewritten g c v mid.working put.dir (blocks_under g (place_of_slot g put.slot) len) (indices_of g (directory into into_parent))
       → is_whole (mid.working.inodes put.dir) ≡ true → HasNode g mid.working clear.dir (directory held then)
-      → trimmed after ≡ after → IsSetTo held after clear.slot None
-      → ((left : ℕ) → AreLeft g old.working (change.Slots (Some put) (Some clear)) left → need_of_change g c old.working (change.Slots (Some put) (Some clear)) left ≤ free_now g c old.working)
       → clearing_need mid clear.dir clear.slot after ≤ free_now mid.origin.request mid.committed mid.working
-  room_to_clear some short made whole node_mid trim is_cleared room =
-      let is = is_left trim is_cleared in
-      let alone : IsRewritten g c old.working mid.working put.dir (block_of_slot g put ∷ []) (indices_of g (directory into into_parent))
-      = rewritten-alike g c old.working mid.working put.dir (blocks_under g (place_of_slot g put.slot) len) (block_of_slot g put ∷ []) (indices_of g (directory into into_parent))
-      (λ i. sym (slot_alone g put.slot len limits within.0 some short i)) made in
-      let shape : HasShape g old.working put.dir (indices_of g (directory into into_parent))
+  room_left_to_clear mid into into_parent then origin committed view_mid put_node other made whole node_mid =
+      let shape : HasShape g v put.dir (indices_of g (directory into into_parent))
       = record { geometry = geometry; view = view; inode = ap is_whole put_node.inode; places = put_node.holds.places; once = put_node.once } in
-      let need = need_left g c old.working mid.working put clear (slot_blocks g after) then (indices_of g (directory into into_parent)) geometry limits view view_mid within.0 within.1 is node_mid shape whole alone other
-      (room (slot_blocks g after) is) in
+      let alone : IsRewritten g c v mid.working put.dir (block_of_slot g put ∷ []) (indices_of g (directory into into_parent))
+      = rewritten-alike g c v mid.working put.dir (blocks_under g (place_of_slot g put.slot) len) (block_of_slot g put ∷ []) (indices_of g (directory into into_parent))
+      (λ i. sym (slot_alone g put.slot len limits within.0 some short i)) made in
+      let need = clear_fits g c v put clear (slot_blocks g after) geometry limits view within.0 within.1 is (room (slot_blocks g after) is) mid.working then (indices_of g (directory into into_parent))
+      view_mid node_mid shape whole alone other in
       subst (λ (r : Request). need_in r mid.committed mid.working clear after ≤ free_now r mid.committed mid.working) (sym (ap (λ (o : Origin). o.request) origin))
       (subst (λ (x : View). need_in g x mid.working clear after ≤ free_now g x mid.working) (sym committed)
       (subst (λ (m : ℕ). m ≤ free_now g c mid.working) (need_is g c mid.working clear after limits within.1) need))
