@@ -12,3 +12,4 @@ pub mod GoneLaws
 pub mod StoreLaws
 pub mod LinkedLaws
 pub mod PutRoomLaws
+pub mod MoveRoomLaws
