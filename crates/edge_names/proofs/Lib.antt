@@ -11,5 +11,6 @@ pub mod NamedAtLaws
 pub mod GoneLaws
 pub mod StoreLaws
 pub mod LinkedLaws
+pub mod SlotRoomLaws
 pub mod PutRoomLaws
 pub mod MoveRoomLaws
