@@ -12,3 +12,5 @@ pub mod GoneLaws
 pub mod StoreLaws
 pub mod LinkedLaws
 pub mod SlotRoomLaws
+pub mod PutRoomLaws
+pub mod MoveRoomLaws
