@@ -11,3 +11,7 @@ pub mod NamedAtLaws
 pub mod GoneLaws
 pub mod StoreLaws
 pub mod LinkedLaws
+pub mod StepLaws
+pub mod ParentLaws
+pub mod TakeLaws
+pub mod MoveTreeLaws
