@@ -15,3 +15,4 @@ pub mod StepLaws
 pub mod ParentLaws
 pub mod TakeLaws
 pub mod MoveTreeLaws
+pub mod PutRoomLaws
