@@ -16,3 +16,4 @@ pub mod ParentLaws
 pub mod TakeLaws
 pub mod MoveTreeLaws
 pub mod PutRoomLaws
+pub mod MovedLaws

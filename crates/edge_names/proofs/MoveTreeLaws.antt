@@ -44,10 +44,12 @@ abbrev pub old_entry : List ℕ → Option NamedNode → Option Entry
 old_entry name None = None
 old_entry name (Some node) = Some (record { name = name; number = node.number })
 
--- the tree that a move leads to, where this node is replaced
+-- the change where this node is replaced, and its tree
+abbrev pub edit_of : Request → Tree → Move → List ℕ → Option NamedNode → Edit
+edit_of g t m name o = renamed g t (within m.from.dir name) (record { slot = m.from.slot; number = m.node.number }) (within m.to.dir name) m.to.slot (number_of o)
+
 abbrev pub renamed_of : Request → Tree → Move → List ℕ → Option NamedNode → Tree
-renamed_of g t m name o =
-    (renamed g t (within m.from.dir name) (record { slot = m.from.slot; number = m.node.number }) (within m.to.dir name) m.to.slot (number_of o)).tree
+renamed_of g t m name o = (edit_of g t m name o).tree
 
 -- and the links of each number in it
 abbrev pub links_then : (ℕ → ℕ) → Option NamedNode → ℕ → ℕ
