@@ -15,5 +15,7 @@ pub mod StepLaws
 pub mod ParentLaws
 pub mod TakeLaws
 pub mod MoveTreeLaws
-pub mod PutRoomLaws
 pub mod MovedLaws
+pub mod SlotRoomLaws
+pub mod PutRoomLaws
+pub mod MoveRoomLaws
