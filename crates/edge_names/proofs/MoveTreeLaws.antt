@@ -238,3 +238,9 @@ module _ (g : Request) (z : State) (m : Move) (name : List ℕ) (may : MayMove g
 
     pub left_base : HasBase g left
     left_base = cleared_base g held m.from.dir m.from.slot held_base from_then
+
+    -- the rules of the slots of the old name's directory without it
+    pub left_rules : (parent : ℕ) → held m.from.dir ≡ Some (directory (slots_at held m.from.dir) parent) → IsDirectory g (without_slot (slots_at held m.from.dir) m.from.slot)
+    left_rules parent there = left_base.nodes m.from.dir (directory (without_slot (slots_at held m.from.dir) m.from.slot) parent)
+        (ap (λ (u : Tree). u m.from.dir) (cleared_is held m.from.dir m.from.slot (slots_at held m.from.dir) parent there)
+        ∙ (node_set held m.from.dir (Some (directory (without_slot (slots_at held m.from.dir) m.from.slot) parent))).here)
