@@ -21,3 +21,4 @@ pub mod SlotRoomLaws
 pub mod PutRoomLaws
 pub mod MoveRoomLaws
 pub mod PutStoreLaws
+pub mod MovedStoreLaws

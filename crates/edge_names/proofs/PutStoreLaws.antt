@@ -1,5 +1,6 @@
 -- The name of a node put into its new slot, in a store that stands for a state: what it makes of the tree, and the room before and after.
 use Rattle.std.proofs.Common.{◌≡◌, ◌∙◌, ℕ, ◌+◌, ◌-◌, ◌/◌, ◌<◌, ◌≤◌, max, true, is_some, List, [], ◌∷◌, ◌++◌, length, length-append, replicate, refl, sym, ap, subst, arith, inl, inr, Option, Some, None}
+use Rattle.std.specs.Prelude.{Result, Ok, Err, OnOk}
 use Rattle.std.proofs.lemmas.Bool.{cases_eq, false≢true}
 use Rattle.std.proofs.lemmas.List.{length-replicate}
 use Rattle.byteorder.specs.Endian.{little_bytes}
@@ -11,6 +12,7 @@ use Rattle.edge_base.specs.layout.Places.{IsGeometry, IsWithinLimits}
 use Rattle.edge_base.specs.outside.Below.{Origin}
 use Rattle.edge_base.specs.tree.Nodes.{directory, indices_of}
 use Rattle.edge_base.specs.tree.Slots.{Entry, slot_bytes}
+use Rattle.edge_store.specs.declared.fault.StoreFault.{StoreFault}
 use Rattle.edge_store.specs.State.{StoreState, Told, HasInode}
 use Rattle.edge_store.specs.View.{IsView, Inode, free_now, head_of_inode, is_whole}
 use Rattle.edge_store.proofs.ViewLaws.{some_of_whole}
@@ -38,7 +40,7 @@ use Rattle.edge_names.proofs.PutLaws.{put_step, to_node, to_parent, to_rules, to
 -- ---- on every view
 
 -- a directory that has come to be longer at most, and no other inode changed
-pub keeps_nodes : (old new : StoreState) (d size : ℕ) → new.origin ≡ old.origin → KeepsInodesBut old new d → IsReadable new d → GrowsTo old new d size → KeepsNodes old new
+keeps_nodes : (old new : StoreState) (d size : ℕ) → new.origin ≡ old.origin → KeepsInodesBut old new d → IsReadable new d → GrowsTo old new d size → KeepsNodes old new
 keeps_nodes old new d size origin inodes readable grows = record {
   inodes = λ n there told. elim (cases_eq n d) [
     | inl same ↦ ap (λ (x : ℕ). is_some (new.working.inodes x)) same ∙ some_of_whole (new.working.inodes d) (readable told)
@@ -59,6 +61,11 @@ keeps_nodes old new d size origin inodes readable grows = record {
       ap (λ (x : ℕ). head_of_inode (new.working.inodes x)) same ∙ grows told ∙ ap (λ (x : ℕ). grown (head_of_inode (old.working.inodes x)) size) (sym same) ∙ ap (λ (o : Option Head). grown o size) was.1,
       was.2,
     )
+
+pub keeps_ok : {T : Type 0} (r : Result T StoreFault) (old new : StoreState) (d size : ℕ) → new.origin ≡ old.origin → OnOk r (KeepsInodesBut old new d) → OnOk r (IsReadable new d)
+    → OnOk r (GrowsTo old new d size) → OnOk r (KeepsNodes old new)
+keeps_ok (Ok x) old new d size origin inodes readable grows = keeps_nodes old new d size origin inodes readable grows
+keeps_ok (Err fault) old new d size origin inodes readable grows = tt
 
 -- so many bytes an entry has
 pub entry_length : (g : Request) (e : Entry) → length e.name ≤ g.name_max → length (slot_bytes g (Some e)) ≡ 4 + g.name_max

@@ -7,13 +7,16 @@ use Rattle.edge_base.specs.layout.Places.{IsWithinLimits}
 use Rattle.edge_base.specs.outside.Below.{Origin}
 use Rattle.edge_base.specs.tree.Slots.{slot_bytes}
 use Rattle.edge_store.specs.declared.fault.StoreFault.{StoreFault}
-use Rattle.edge_store.specs.State.{Told}
+use Rattle.edge_store.specs.State.{IsLive, Told}
 use Rattle.edge_store.specs.View.{IsView}
+use Rattle.edge_tree.specs.Answers.{IsReadable}
+use Rattle.edge_file.specs.Writing.{WritesBytes}
+use Rattle.edge_dir.specs.Written.{place_of_slot}
 use Rattle.edge_cut.proofs.GoLaws.{on_ok_both, on_ok_map}
 use Rattle.edge_volume.specs.Stopped.{fault_in}
 use Rattle.edge_names.proofs.MoveTreeLaws.{new_entry}
 use Rattle.edge_names.proofs.PutLaws.{to_node, to_parent}
-use Rattle.edge_names.proofs.PutStoreLaws.{entry_length, keeps_nodes, put_placed, put_replaced, room_left, room_to_put}
+use Rattle.edge_names.proofs.PutStoreLaws.{entry_length, keeps_ok, put_placed, put_replaced, room_left, room_to_put}
 use Rattle.edge_names.proofs.moves.put_name.Goals as goal
 
 told_err : {T : Type 0} (r : Result T StoreFault) (fault : StoreFault) → fault_in r ≡ Some fault → r ≡ Err fault
@@ -29,8 +32,7 @@ returns-then-is_some-clause-keeps g c =
     let old = g.S.Store.state c.args.s.now in
     let new = g.S.Store.state c.replace.new.s in
     let call = c.replace.ensures in
-    on_ok_both c.replace.result (λ inodes more. keeps_nodes old new c.args.change.now.to.dir _ call.called.origin inodes more.0 more.1) call.inodes
-    (on_ok_both c.replace.result (λ readable size. (readable, size)) call.readable call.size)
+    keeps_ok c.replace.result old new c.args.change.now.to.dir _ call.called.origin call.inodes call.readable call.size
 
 pub returns-then-is_some-clause-undamaged : goal.returns-then-is_some-clause-undamaged
 returns-then-is_some-clause-undamaged g c z stands may room d e =
@@ -59,7 +61,8 @@ returns-then-is_some-clause-room g c =
     let new = g.S.Store.state c.replace.new.s in
     let r = old.origin.request in
     let call = c.replace.ensures in
-    on_ok_both c.replace.result (λ done more z stands may room.
+    on_ok_both c.replace.result
+    (λ done (more : IsReadable new c.args.change.now.to.dir × WritesBytes old new c.args.change.now.to.dir (place_of_slot r c.args.change.now.to.slot) (little_bytes 4 c.args.change.now.node.number) × IsLive new) z stands may room.
     let told_new : Told new = ap (λ (o : Origin). o.tells) call.called.origin ∙ stands.told in
     let geometry = g.met.S.Store.is_geometry c.args.s.now in
     let view = g.met.S.Store.working_is_view c.args.s.now stands.told c.requires.live in
@@ -76,8 +79,7 @@ returns-clause-keeps g c =
     let old = g.S.Store.state c.args.s.now in
     let new = g.S.Store.state c.place.new.s in
     let call = c.place.ensures in
-    on_ok_both c.place.result (λ inodes more. keeps_nodes old new c.args.change.now.to.dir _ call.called.origin inodes more.0 more.1) call.inodes
-    (on_ok_both c.place.result (λ readable size. (readable, size)) call.readable call.size)
+    keeps_ok c.place.result old new c.args.change.now.to.dir _ call.called.origin call.inodes call.readable call.size
 
 pub returns-clause-undamaged : goal.returns-clause-undamaged
 returns-clause-undamaged g c z stands may room d e =
@@ -106,7 +108,8 @@ returns-clause-room g c =
     let new = g.S.Store.state c.place.new.s in
     let r = old.origin.request in
     let call = c.place.ensures in
-    on_ok_both c.place.result (λ done more z stands may room.
+    on_ok_both c.place.result
+    (λ done (more : IsReadable new c.args.change.now.to.dir × WritesBytes old new c.args.change.now.to.dir (place_of_slot r c.args.change.now.to.slot) (slot_bytes r (Some (new_entry c.args.change.now c.args.name.now))) × IsLive new) z stands may room.
     let told_new : Told new = ap (λ (o : Origin). o.tells) call.called.origin ∙ stands.told in
     let geometry = g.met.S.Store.is_geometry c.args.s.now in
     let view = g.met.S.Store.working_is_view c.args.s.now stands.told c.requires.live in
