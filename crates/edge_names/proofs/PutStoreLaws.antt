@@ -13,24 +13,22 @@ use Rattle.edge_base.specs.outside.Below.{Origin}
 use Rattle.edge_base.specs.tree.Nodes.{directory, indices_of}
 use Rattle.edge_base.specs.tree.Slots.{Entry, slot_bytes}
 use Rattle.edge_store.specs.declared.fault.StoreFault.{StoreFault}
-use Rattle.edge_store.specs.State.{StoreState, Told, HasInode}
+use Rattle.edge_store.specs.Calls.{Called, KeepsPoint}
+use Rattle.edge_store.specs.State.{StoreState, Told, IsLive}
 use Rattle.edge_store.specs.View.{IsView, Inode, free_now, head_of_inode, is_whole}
 use Rattle.edge_store.proofs.ViewLaws.{some_of_whole}
 use Rattle.edge_model.specs.Named.{slot_position, without_slot}
 use Rattle.edge_model.specs.State.{State}
 use Rattle.edge_model.specs.Tree.{links_of, slots_at}
 use Rattle.edge_tree.specs.Answers.{IsReadable}
-use Rattle.edge_file.specs.Bytes.{blocks_under}
-use Rattle.edge_file.specs.Rewritten.{IsRewritten}
 use Rattle.edge_file.specs.Writing.{GrowsTo, KeepsInodesBut, RoomForBytes, WritesBytes, grown}
 use Rattle.edge_dir.specs.Cleared.{clearing_need}
-use Rattle.edge_dir.specs.Directory.{IsDirectoryNode}
 use Rattle.edge_dir.specs.Written.{PlacesEntry, ReplacesNumber, place_of_slot}
 use Rattle.edge_space.specs.Changes.{IsWithin}
 use Rattle.edge_space.specs.declared.change.Change.TheVariants.{Slots}
 use Rattle.edge_volume.specs.Volume.{StoreStands}
 use Rattle.edge_names.specs.Moved.{HasRoomToMove, MayMove}
-use Rattle.edge_names.specs.Stepped.{KeepsNodes, Steps}
+use Rattle.edge_names.specs.Stepped.{KeepsNodes, LeavesRoomToClear, PutsName, Steps}
 use Rattle.edge_names.specs.declared.moves.Move.{Move}
 use Rattle.edge_names.specs.declared.moves.NamedNode.{NamedNode}
 use Rattle.edge_names.proofs.MoveRoomLaws.{room_to_place, room_to_clear_then}
@@ -110,17 +108,26 @@ module _ (old : StoreState) (z : State) (m : Move) (name : List ℕ) (geometry :
         (to_rules g old.committed old.working z m name may within.0) (was_there g z m name may ∙ ap (old_entry name) node.1) (to_set g old.committed old.working z m name may within.0))
 
     -- and leaves room to clear the old slot
-    pub room_left : (len : ℕ) (bytes : List ℕ) → length bytes ≡ len → 0 < len → len ≤ 4 + g.name_max → HasRoomToMove old m.to m.from → new.origin ≡ old.origin → new.committed ≡ old.committed
+    room_left : (bytes : List ℕ) → 0 < length bytes → length bytes ≤ 4 + g.name_max → HasRoomToMove old m.to m.from → new.origin ≡ old.origin → new.committed ≡ old.committed
         → IsView g new.working → Steps old new z.tree (held_of z.tree m name) (links_of g z.tree) (slot_position g m.to.dir m.to.slot ∷ []) [] → IsReadable new m.to.dir
         → WritesBytes old new m.to.dir (place_of_slot g m.to.slot) bytes
         → clearing_need new m.from.dir m.from.slot (without_slot (slots_at (held_of z.tree m name) m.from.dir) m.from.slot) ≤ free_now new.origin.request new.committed new.working
-    room_left len bytes long some short room origin committed view_new step readable writes =
+    room_left bytes some short room origin committed view_new step readable writes =
         let parent = to_parent g old.committed old.working z m name may within.0 in
         let node = to_node g old.committed old.working z m name may within.0 view stands.views.tree in
         let indices = indices_of g (directory (slots_at z.tree m.to.dir) parent) in
-        room_to_clear_then old z.tree m.to m.from (new_entry m name) may.entry len geometry limits view stands.views.tree within some short
+        room_to_clear_then old z.tree m.to m.from (new_entry m name) may.entry (length bytes) geometry limits view stands.views.tree within some short
         may.tree may.to may.from (inside_to g z m name may) may.named may.apart room
         new (links_of g z.tree) parent origin committed view_new step.stands (to_rules g old.committed old.working z m name may within.0)
         (readable (ap (λ (o : Origin). o.tells) origin ∙ stands.told))
-        (subst (λ (k : ℕ). IsRewritten g old.committed old.working new.working m.to.dir (blocks_under g (place_of_slot g m.to.slot) k) indices) long
-        (writes stands.told indices node.holds.places node.once).rewritten)
+        (writes stands.told indices node.holds.places node.once).rewritten
+
+-- the same of a call that puts it by writing these bytes
+pub room_ok : {T : Type 0} (r : Result T StoreFault) (old new : StoreState) (m : Move) (name bytes : List ℕ) → IsGeometry old.origin.request → IsWithinLimits old.origin.request
+    → (Told old → IsView old.origin.request old.working) → (Told new → IsLive new → IsView new.origin.request new.working) → IsWithin old.origin.request (Slots (Some m.to) (Some m.from))
+    → 0 < length bytes → length bytes ≤ 4 + old.origin.request.name_max → Called old new r → KeepsPoint old new → OnOk r (PutsName old new m name) → OnOk r (IsReadable new m.to.dir)
+    → OnOk r (WritesBytes old new m.to.dir (place_of_slot old.origin.request m.to.slot) bytes) → OnOk r (LeavesRoomToClear old new m name)
+room_ok (Ok x) old new m name bytes geometry limits view view_new within some short called point puts readable writes = λ z stands may room.
+    room_left old z m name geometry limits (view stands.told) stands may within new bytes some short room called.origin point.committed
+    (subst (λ (o : Origin). IsView o.request new.working) called.origin (view_new (ap (λ (o : Origin). o.tells) called.origin ∙ stands.told) called.live)) (puts z stands may) readable writes
+room_ok (Err fault) old new m name bytes geometry limits view view_new within some short called point puts readable writes = tt

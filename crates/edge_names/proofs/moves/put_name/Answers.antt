@@ -1,31 +1,20 @@
 use Rattle.std.proofs.Common.{◌≡◌, ◌∙◌, ℕ, ◌+◌, ◌≤◌, Bool, true, sym, ap, subst, arith, Some, None}
-use Rattle.std.specs.Prelude.{Result, Ok, Err, OnOk, is_ok}
+use Rattle.std.specs.Prelude.{Result, Ok, Err}
 use Rattle.byteorder.specs.Endian.{little_bytes}
 use Rattle.byteorder.specs.Numbers.{length-bytes_low_first}
-use Rattle.edge_base.specs.declared.geometry.Request.{Request}
 use Rattle.edge_base.specs.layout.Places.{IsWithinLimits}
-use Rattle.edge_base.specs.outside.Below.{Origin}
 use Rattle.edge_base.specs.tree.Slots.{slot_bytes}
 use Rattle.edge_store.specs.declared.fault.StoreFault.{StoreFault}
-use Rattle.edge_store.specs.State.{IsLive, Told}
-use Rattle.edge_store.specs.View.{IsView}
-use Rattle.edge_tree.specs.Answers.{IsReadable}
-use Rattle.edge_file.specs.Writing.{WritesBytes}
-use Rattle.edge_dir.specs.Written.{place_of_slot}
-use Rattle.edge_cut.proofs.GoLaws.{on_ok_both, on_ok_map}
+use Rattle.edge_cut.proofs.GoLaws.{on_ok_map}
 use Rattle.edge_volume.specs.Stopped.{fault_in}
 use Rattle.edge_names.proofs.MoveTreeLaws.{new_entry}
 use Rattle.edge_names.proofs.PutLaws.{to_node, to_parent}
-use Rattle.edge_names.proofs.PutStoreLaws.{entry_length, keeps_ok, put_placed, put_replaced, room_left, room_to_put}
+use Rattle.edge_names.proofs.PutStoreLaws.{entry_length, keeps_ok, put_placed, put_replaced, room_ok, room_to_put}
 use Rattle.edge_names.proofs.moves.put_name.Goals as goal
 
 told_err : {T : Type 0} (r : Result T StoreFault) (fault : StoreFault) → fault_in r ≡ Some fault → r ≡ Err fault
 told_err (Ok x) fault e = absurd (let wrong : None ≡ Some fault = e in cc)
 told_err (Err y) fault e = ap Err (let same : Some y ≡ Some fault = e in cc)
-
-live_ok : {T : Type 0} (r : Result T StoreFault) {live : Bool} → live ≡ is_ok r → OnOk r (live ≡ true)
-live_ok (Ok x) is = is
-live_ok (Err fault) is = tt
 
 pub returns-then-is_some-clause-keeps : goal.returns-then-is_some-clause-keeps
 returns-then-is_some-clause-keeps g c =
@@ -58,21 +47,13 @@ returns-then-is_some-clause-put g c =
 pub returns-then-is_some-clause-room : goal.returns-then-is_some-clause-room
 returns-then-is_some-clause-room g c =
     let old = g.S.Store.state c.args.s.now in
-    let new = g.S.Store.state c.replace.new.s in
-    let r = old.origin.request in
     let call = c.replace.ensures in
-    on_ok_both c.replace.result
-    (λ done (more : IsReadable new c.args.change.now.to.dir × WritesBytes old new c.args.change.now.to.dir (place_of_slot r c.args.change.now.to.slot) (little_bytes 4 c.args.change.now.node.number) × IsLive new) z stands may room.
-    let told_new : Told new = ap (λ (o : Origin). o.tells) call.called.origin ∙ stands.told in
-    let geometry = g.met.S.Store.is_geometry c.args.s.now in
-    let view = g.met.S.Store.working_is_view c.args.s.now stands.told c.requires.live in
-    let view_new : IsView r new.working = subst (λ (o : Origin). IsView o.request new.working) call.called.origin (g.met.S.Store.working_is_view c.replace.new.s told_new more.2) in
-    let limits : IsWithinLimits r = subst IsWithinLimits c.geometry.ensures c.request-within_limits.ensures.limits in
-    let step = put_replaced old z c.args.change.now c.args.name.now geometry limits view stands may c.requires.within new (sym c.is_some.ensures ∙ c.if-is_some.true) done in
-    room_left old z c.args.change.now c.args.name.now geometry limits view stands may c.requires.within new 4 (little_bytes 4 c.args.change.now.node.number)
-    (length-bytes_low_first 0 4 c.args.change.now.node.number) (omega arith) (omega arith) room call.called.origin call.point.committed view_new step more.0 more.1)
-    call.replaced
-    (on_ok_both c.replace.result (λ readable more. (readable, more.0, more.1)) call.readable (on_ok_both c.replace.result (λ bytes live. (bytes, live)) call.bytes (live_ok c.replace.result call.called.live)))
+    let bytes = little_bytes 4 c.args.change.now.node.number in
+    let long = length-bytes_low_first 0 4 c.args.change.now.node.number in
+    room_ok c.replace.result old (g.S.Store.state c.replace.new.s) c.args.change.now c.args.name.now bytes (g.met.S.Store.is_geometry c.args.s.now)
+    (subst IsWithinLimits c.geometry.ensures c.request-within_limits.ensures.limits) (λ told. g.met.S.Store.working_is_view c.args.s.now told c.requires.live)
+    (λ told live. g.met.S.Store.working_is_view c.replace.new.s told live) c.requires.within (omega (arith, long)) (omega (arith, long)) call.called call.point
+    (returns-then-is_some-clause-put g c) call.readable call.bytes
 
 pub returns-clause-keeps : goal.returns-clause-keeps
 returns-clause-keeps g c =
@@ -105,19 +86,10 @@ returns-clause-put g c =
 pub returns-clause-room : goal.returns-clause-room
 returns-clause-room g c =
     let old = g.S.Store.state c.args.s.now in
-    let new = g.S.Store.state c.place.new.s in
-    let r = old.origin.request in
     let call = c.place.ensures in
-    on_ok_both c.place.result
-    (λ done (more : IsReadable new c.args.change.now.to.dir × WritesBytes old new c.args.change.now.to.dir (place_of_slot r c.args.change.now.to.slot) (slot_bytes r (Some (new_entry c.args.change.now c.args.name.now))) × IsLive new) z stands may room.
-    let told_new : Told new = ap (λ (o : Origin). o.tells) call.called.origin ∙ stands.told in
-    let geometry = g.met.S.Store.is_geometry c.args.s.now in
-    let view = g.met.S.Store.working_is_view c.args.s.now stands.told c.requires.live in
-    let view_new : IsView r new.working = subst (λ (o : Origin). IsView o.request new.working) call.called.origin (g.met.S.Store.working_is_view c.place.new.s told_new more.2) in
-    let limits : IsWithinLimits r = subst IsWithinLimits c.geometry.ensures c.request-within_limits.ensures.limits in
-    let step = put_placed old z c.args.change.now c.args.name.now geometry limits view stands may c.requires.within new done in
-    room_left old z c.args.change.now c.args.name.now geometry limits view stands may c.requires.within new (4 + r.name_max) (slot_bytes r (Some (new_entry c.args.change.now c.args.name.now)))
-    (entry_length r (new_entry c.args.change.now c.args.name.now) c.requires.name) (omega arith) (omega arith) room call.called.origin call.point.committed view_new step more.0 more.1)
-    call.placed
-    (on_ok_both c.place.result (λ readable more. (readable, more.0, more.1)) call.readable (on_ok_both c.place.result (λ bytes live. (bytes, live)) call.bytes (live_ok c.place.result call.called.live)))
-
+    let bytes = slot_bytes old.origin.request (Some (new_entry c.args.change.now c.args.name.now)) in
+    let long = entry_length old.origin.request (new_entry c.args.change.now c.args.name.now) c.requires.name in
+    room_ok c.place.result old (g.S.Store.state c.place.new.s) c.args.change.now c.args.name.now bytes (g.met.S.Store.is_geometry c.args.s.now)
+    (subst IsWithinLimits c.geometry.ensures c.request-within_limits.ensures.limits) (λ told. g.met.S.Store.working_is_view c.args.s.now told c.requires.live)
+    (λ told live. g.met.S.Store.working_is_view c.place.new.s told live) c.requires.within (omega (arith, long)) (omega (arith, long)) call.called call.point
+    (returns-clause-put g c) call.readable call.bytes
