@@ -4,19 +4,18 @@ use Rattle.std.proofs.lemmas.Bool.{false≢true, eqb-false, ne_eqb}
 use Rattle.edge_base.specs.declared.geometry.Request.{Request}
 use Rattle.edge_base.specs.layout.Places.{max_blocks_of}
 use Rattle.edge_base.specs.tree.NodeRules.{IsDirectory, IsEntry}
-use Rattle.edge_base.specs.tree.Nodes.{Node, file, directory}
-use Rattle.edge_base.specs.tree.Slots.{Entry, Slots, slots_in_block}
+use Rattle.edge_base.specs.tree.Nodes.{Node, directory}
+use Rattle.edge_base.specs.tree.Slots.{Entry, slots_in_block}
 use Rattle.edge_model.specs.Named.{placed, cleared, with_slot, without_slot}
-use Rattle.edge_model.specs.Names.{renamed, has_one_link, with_parent}
-use Rattle.edge_model.specs.Rules.{IsTree}
+use Rattle.edge_model.specs.Names.{renamed, has_one_link}
 use Rattle.edge_model.specs.State.{State, Edit}
 use Rattle.edge_model.specs.Tree.{Tree, is_directory, links_of, names_of_number, slots_at, with_node}
-use Rattle.edge_model.specs.Walk.{Found, within}
+use Rattle.edge_model.specs.Walk.{within}
 use Rattle.edge_model.proofs.CompleteLaws.{slot_within}
 use Rattle.edge_steps.specs.Naming.{slot_of, names_once}
 use Rattle.edge_steps.proofs.CountLaws.{slot_at, SlotSet}
 use Rattle.edge_steps.proofs.NamingLaws.{cleared_kinds, placed_kinds, renamed_names}
-use Rattle.edge_steps.proofs.NodeLaws.{HasBase, base_of, cleared_base, cleared_slot, directory_is, directory_rules, directory_there, node_set, placed_base, placed_slot, slots_are}
+use Rattle.edge_steps.proofs.NodeLaws.{HasBase, base_of, cleared_base, cleared_slot, directory_is, directory_rules, directory_there, node_set, placed_base, placed_slot}
 use Rattle.edge_steps.proofs.PlanLaws.{empty_slot}
 use Rattle.edge_steps.proofs.RenameLaws.{parent_set}
 use Rattle.edge_steps.proofs.SetLaws.{placed_is, cleared_is}

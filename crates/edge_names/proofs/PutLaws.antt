@@ -1,9 +1,9 @@
 -- A name that may be moved put into its new slot, and then its old slot cleared: the directories in the views that stand for the trees between.
-use Rattle.std.proofs.Common.{◌≡◌, ◌∙◌, ℕ, ◌/◌, ◌<◌, true, List, [], ◌∷◌, sym, ap, Option, Some, None}
+use Rattle.std.proofs.Common.{◌≡◌, ◌∙◌, ℕ, ◌/◌, ◌<◌, true, List, [], ◌∷◌, sym, ap, Some, None}
 use Rattle.edge_base.specs.declared.geometry.Request.{Request}
 use Rattle.edge_base.specs.layout.Places.{max_blocks_of}
 use Rattle.edge_base.specs.tree.NodeRules.{IsDirectory}
-use Rattle.edge_base.specs.tree.Nodes.{Node, directory}
+use Rattle.edge_base.specs.tree.Nodes.{directory}
 use Rattle.edge_base.specs.tree.Slots.{Slots, slots_in_block}
 use Rattle.edge_store.specs.Placed.{HasNode}
 use Rattle.edge_store.specs.View.{View, IsView}

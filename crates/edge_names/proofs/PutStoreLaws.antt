@@ -1,5 +1,5 @@
 -- The name of a node put into its new slot, in a store that stands for a state: what it makes of the tree, and the room before and after.
-use Rattle.std.proofs.Common.{◌≡◌, ◌∙◌, ℕ, ◌+◌, ◌-◌, ◌/◌, ◌<◌, ◌≤◌, max, true, is_some, List, [], ◌∷◌, ◌++◌, length, length-append, replicate, refl, sym, ap, subst, arith, inl, inr, Option, Some, None}
+use Rattle.std.proofs.Common.{◌≡◌, ◌∙◌, ℕ, ◌+◌, ◌-◌, ◌<◌, ◌≤◌, max, true, is_some, List, [], ◌∷◌, ◌++◌, length, length-append, replicate, refl, sym, ap, subst, arith, inl, inr, Option, Some, None}
 use Rattle.std.specs.Prelude.{Result, Ok, Err, OnOk}
 use Rattle.std.proofs.lemmas.Bool.{cases_eq, false≢true}
 use Rattle.std.proofs.lemmas.List.{length-replicate}
@@ -15,7 +15,7 @@ use Rattle.edge_base.specs.tree.Slots.{Entry, slot_bytes}
 use Rattle.edge_store.specs.declared.fault.StoreFault.{StoreFault}
 use Rattle.edge_store.specs.Calls.{Called, KeepsPoint}
 use Rattle.edge_store.specs.State.{StoreState, Told, IsLive}
-use Rattle.edge_store.specs.View.{IsView, Inode, free_now, head_of_inode, is_whole}
+use Rattle.edge_store.specs.View.{IsView, Inode, free_now, head_of_inode}
 use Rattle.edge_store.proofs.ViewLaws.{some_of_whole}
 use Rattle.edge_model.specs.Named.{slot_position, without_slot}
 use Rattle.edge_model.specs.State.{State}
