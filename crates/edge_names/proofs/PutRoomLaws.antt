@@ -1,11 +1,10 @@
 -- Room to put an entry into a slot, and then to clear another: where there is room for both, there is room for the one and then for the other.
-use Rattle.std.proofs.Common.{◌≡◌, ◌≢◌, ◌∙◌, ℕ, ◌+◌, ◌*◌, ◌/◌, ◌%◌, ◌==◌, ◌<◌, ◌≤◌, ◌&&◌, ◌||◌, not, Bool, true, false, cond, max, inl, inr, List, [], ◌∷◌, length, Some, None, refl, sym, ap, subst, arith}
+use Rattle.std.proofs.Common.{◌≡◌, ◌≢◌, ◌∙◌, ℕ, ◌+◌, ◌==◌, ◌<◌, ◌≤◌, ◌&&◌, ◌||◌, not, Bool, true, false, cond, max, inl, inr, List, [], ◌∷◌, length, Some, None, refl, sym, ap, subst, arith}
 use Rattle.std.specs.Prelude.{is_some, nat_le, nat_lt}
 use Rattle.std.specs.List.{filter}
 use Rattle.std.specs.Cmp.{both_ways}
 use Rattle.std.proofs.lemmas.Bool.{and_parts, and_from, cases_eq, cond-true, eq-eqb, le-leb, leb-true}
 use Rattle.std.proofs.lemmas.Bool.Decides.{nat_tests}
-use Rattle.std.proofs.Math.Nat.{mod-lt}
 use Rattle.edge_base.specs.declared.form.Form.{Form}
 use Rattle.edge_base.specs.declared.form.Form.TheVariants.{Plain}
 use Rattle.edge_base.specs.declared.geometry.Request.{Request}
@@ -37,11 +36,10 @@ use Rattle.edge_file.specs.Bytes.{blocks_under}
 use Rattle.edge_file.specs.Rewritten.{fresh_on, IsRewritten}
 use Rattle.edge_file.specs.Writing.{RoomForBytes}
 use Rattle.edge_file.proofs.BlockLaws.{alone, fresh_on-chain}
-use Rattle.edge_file.proofs.JoinLaws.{fresh_on-alike, rewritten-alike}
-use Rattle.edge_file.proofs.RangeLaws.{block_alone, lists}
+use Rattle.edge_file.proofs.JoinLaws.{rewritten-alike}
 use Rattle.edge_dir.specs.Cleared.{clearing_need}
 use Rattle.edge_dir.specs.Written.{IsSetTo, place_of_slot}
-use Rattle.edge_dir.proofs.EndLaws.{slot_within, some_slots}
+use Rattle.edge_dir.proofs.EndLaws.{some_slots}
 use Rattle.edge_dir.proofs.SetLaws.{blocks_filled, length_filled}
 use Rattle.edge_dir.proofs.WriteLaws.{range_has}
 use Rattle.edge_space.specs.Changes.{AreLeft, IsWithin, need_of_change}
@@ -50,22 +48,9 @@ use Rattle.edge_space.specs.declared.change.Change.TheVariants as change
 use Rattle.edge_space.specs.declared.change.SlotAt.{SlotAt}
 use Rattle.edge_space.proofs.LeftLaws.{left_is}
 use Rattle.edge_space.proofs.SlotLaws.{both_count, clear_count}
+use Rattle.edge_names.proofs.SlotRoomLaws.{part_fresh, slot_alone, slot_fresh}
 
 -- ---- one block
-
--- the bytes of a slot, or the first of them, lie in its block alone
-pub slot_alone : (g : Request) (k len : ℕ) → IsWithinLimits g → k / slots_in_block g < max_blocks_of g → 0 < len → len ≤ 4 + g.name_max
-    → (i : ℕ) → lists (k / slots_in_block g ∷ []) i ≡ lists (blocks_under g (place_of_slot g k) len) i
-slot_alone g k len limits low some short =
-    let within = slot_within g (k % slots_in_block g) (mod-lt k (some_slots g limits)) in
-    block_alone g (k / slots_in_block g) (k % slots_in_block g * (4 + g.name_max)) len low some (omega (arith, within, short))
-
--- so they make the chain of that block dirty
-slot_fresh : (g : Request) (c v : View) (d k len : ℕ) → IsWithinLimits g → k / slots_in_block g < max_blocks_of g → 0 < len → len ≤ 4 + g.name_max
-    → fresh_on g c v d (blocks_under g (place_of_slot g k) len) ≡ fresh_on_chain g c v d (k / slots_in_block g)
-slot_fresh g c v d k len limits low some short =
-    sym (fresh_on-alike g c v v d (k / slots_in_block g ∷ []) (blocks_under g (place_of_slot g k) len) [] (slot_alone g k len limits low some short))
-    ∙ fresh_on-chain g c v d (k / slots_in_block g)
 
 -- a data block made new and written makes its chain new
 pub rewritten_renews : (g : Request) (c v w : View) (n i : ℕ) (indices : List ℕ) → IsGeometry g → IsView g w → is_whole (w.inodes n) ≡ true
@@ -265,7 +250,7 @@ need_is : (g : Request) (c w : View) (clear : SlotAt) (after : Slots) → IsWith
     → clear_need g c w clear (slot_blocks g after) ≡ need_in g c w clear after
 need_is g c w clear after limits low =
     ap (λ (m : ℕ). cond (nat_lt (block_of_slot g clear) (slot_blocks g after)) m (cut_need g c w clear.dir (slot_blocks g after)))
-    (sym (slot_fresh g c w clear.dir clear.slot (4 + g.name_max) limits low (omega arith) (omega arith)))
+    (sym (slot_fresh g c w clear.dir clear.slot limits low))
 
 -- An entry is put into slot `put`, one that its directory has or a new one, by bytes that are written from its first on. By that the directory
 -- of slot `clear`, which is the same or another, comes to have the slots `held`; then that slot is cleared, and `after` are left. There is
@@ -306,7 +291,7 @@ module _ (old : StoreState) (put clear : SlotAt) (len : ℕ) (slots held after :
   -- So there is room for the put first,
   pub room_to_put_first : RoomForBytes old put.dir (place_of_slot g put.slot) len
   room_to_put_first =
-      subst (λ (m : ℕ). m ≤ free_now g c v) (sym (slot_fresh g c v put.dir put.slot len limits within.0 some short))
+      subst (λ (m : ℕ). m ≤ free_now g c v) (sym (part_fresh g c v put.dir put.slot len limits within.0 some short))
       (put_fits g c v put clear (slot_blocks g after) geometry limits view within.0 within.1 is (room (slot_blocks g after) is))
 
   -- and in the store then there is room left for the clearing.
