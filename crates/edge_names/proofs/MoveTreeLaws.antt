@@ -4,19 +4,18 @@ use Rattle.std.proofs.lemmas.Bool.{false≢true, eqb-false, ne_eqb}
 use Rattle.edge_base.specs.declared.geometry.Request.{Request}
 use Rattle.edge_base.specs.layout.Places.{max_blocks_of}
 use Rattle.edge_base.specs.tree.NodeRules.{IsDirectory, IsEntry}
-use Rattle.edge_base.specs.tree.Nodes.{Node, file, directory}
-use Rattle.edge_base.specs.tree.Slots.{Entry, Slots, slots_in_block}
+use Rattle.edge_base.specs.tree.Nodes.{Node, directory}
+use Rattle.edge_base.specs.tree.Slots.{Entry, slots_in_block}
 use Rattle.edge_model.specs.Named.{placed, cleared, with_slot, without_slot}
-use Rattle.edge_model.specs.Names.{renamed, has_one_link, with_parent}
-use Rattle.edge_model.specs.Rules.{IsTree}
+use Rattle.edge_model.specs.Names.{renamed, has_one_link}
 use Rattle.edge_model.specs.State.{State, Edit}
 use Rattle.edge_model.specs.Tree.{Tree, is_directory, links_of, names_of_number, slots_at, with_node}
-use Rattle.edge_model.specs.Walk.{Found, within}
+use Rattle.edge_model.specs.Walk.{within}
 use Rattle.edge_model.proofs.CompleteLaws.{slot_within}
 use Rattle.edge_steps.specs.Naming.{slot_of, names_once}
 use Rattle.edge_steps.proofs.CountLaws.{slot_at, SlotSet}
 use Rattle.edge_steps.proofs.NamingLaws.{cleared_kinds, placed_kinds, renamed_names}
-use Rattle.edge_steps.proofs.NodeLaws.{HasBase, base_of, cleared_base, cleared_slot, directory_is, directory_rules, directory_there, node_set, placed_base, placed_slot, slots_are}
+use Rattle.edge_steps.proofs.NodeLaws.{HasBase, base_of, cleared_base, cleared_slot, directory_is, directory_rules, directory_there, node_set, placed_base, placed_slot}
 use Rattle.edge_steps.proofs.PlanLaws.{empty_slot}
 use Rattle.edge_steps.proofs.RenameLaws.{parent_set}
 use Rattle.edge_steps.proofs.SetLaws.{placed_is, cleared_is}
@@ -124,12 +123,12 @@ module _ (g : Request) (z : State) (m : Move) (name : List ℕ) (may : MayMove g
       by true = (node_set left node.number None).others m.to.dir is.not_to
       by false = refl
 
+  abbrev then : Tree
+  then = (moved g t m name).tree
+
   good : IsEntry g e
   good = (to_slotwise g (slots_at then m.to.dir) (directory_rules g then m.to.dir (base_of g then may.tree_then) kind)).entries m.to.slot e there
     where
-      abbrev then : Tree
-      then = (moved g t m name).tree
-
       same : then m.to.dir ≡ left m.to.dir
       same = to_then m.replaced may.placed
 
@@ -178,28 +177,25 @@ module _ (g : Request) (z : State) (m : Move) (name : List ℕ) (may : MayMove g
   replaced_file n true is more = absurd (false≢true (sym more ∙ ap (λ b. cond b 1 (names_of_number g t n) == 1) is))
   replaced_file n false is more = refl
 
+  abbrev over : NamedNode → Tree
+  over node = renamed_of g t m name (Some node)
+
   replaced_links : (node : NamedNode) → IsPlaced g t m name (Some node) → slot_of t m.to.dir m.to.slot ≡ old_entry name (Some node) → is_some (renamed_of g t m name (Some node) node.number) ≡ true
       → links_of g t node.number - 1 ≡ links_of g (renamed_of g t m name (Some node)) node.number
-  replaced_links node is was some = by (has_one_link g t n) refl
+  replaced_links node is was some = by (has_one_link g t node.number) refl
     where
-      abbrev n : ℕ
-      n = node.number
+      here : (over node) node.number ≡ without_it node (has_one_link g t node.number) node.number
+      here = parent_others (without_it node (has_one_link g t node.number)) m.node.number m.to.dir node.number is.other
 
-      abbrev then : Tree
-      then = renamed_of g t m name (Some node)
-
-      here : then n ≡ without_it node (has_one_link g t n) n
-      here = parent_others (without_it node (has_one_link g t n)) m.node.number m.to.dir n is.other
-
-      by : (last : Bool) → has_one_link g t n ≡ last → links_of g t n - 1 ≡ links_of g then n
-      by true one = absurd (false≢true (sym (ap (λ (o : Option Node). is_some o) (here ∙ ap (λ b. without_it node b n) one ∙ (node_set left n None).here)) ∙ some))
+      by : (last : Bool) → has_one_link g t node.number ≡ last → links_of g t node.number - 1 ≡ links_of g (over node) node.number
+      by true one = absurd (false≢true (sym (ap (λ (o : Option Node). is_some o) (here ∙ ap (λ b. without_it node b node.number) one ∙ (node_set left node.number None).here)) ∙ some))
       by false more =
-          let kind = replaced_file n (is_directory t n) refl more in
-          let kind_then : is_directory then n ≡ false = ap (λ (o : Option Node). kind_in o) (here ∙ ap (λ b. without_it node b n) more) ∙ left_kinds n ∙ kind in
-          let all = then_names (Some node) is n in
-          let once : names_once n (slot_of t m.to.dir m.to.slot) ≡ 1 = ap (names_once n) was ∙ ap (λ b. cond b 1 0) (eq-eqb n n refl) in
-          let links : links_of g t n ≡ names_of_number g t n = ap (λ b. cond b 1 (names_of_number g t n)) kind in
-          let now : links_of g then n ≡ names_of_number g then n = ap (λ b. cond b 1 (names_of_number g then n)) kind_then in
+          let kind = replaced_file node.number (is_directory t node.number) refl more in
+          let kind_then : is_directory (over node) node.number ≡ false = ap (λ (o : Option Node). kind_in o) (here ∙ ap (λ b. without_it node b node.number) more) ∙ left_kinds node.number ∙ kind in
+          let all = then_names (Some node) is node.number in
+          let once : names_once node.number (slot_of t m.to.dir m.to.slot) ≡ 1 = ap (names_once node.number) was ∙ ap (λ b. cond b 1 0) (eq-eqb node.number node.number refl) in
+          let links : links_of g t node.number ≡ names_of_number g t node.number = ap (λ b. cond b 1 (names_of_number g t node.number)) kind in
+          let now : links_of g (over node) node.number ≡ names_of_number g (over node) node.number = ap (λ b. cond b 1 (names_of_number g (over node) node.number)) kind_then in
           omega (arith, all, once, links, now)
 
   pub then_links : (o : Option NamedNode) → IsPlaced g t m name o → slot_of t m.to.dir m.to.slot ≡ old_entry name o → (x : ℕ) → is_some (renamed_of g t m name o x) ≡ true
@@ -210,24 +206,21 @@ module _ (g : Request) (z : State) (m : Move) (name : List ℕ) (may : MayMove g
       links_by g t (renamed_of g t m name None) x ((parent_set left m.node.number m.to.dir).kinds x ∙ left_kinds x) (omega (arith, all, none))
   then_links (Some node) is was x some = by (x == node.number) refl
     where
-      abbrev then : Tree
-      then = renamed_of g t m name (Some node)
-
       kept : (last : Bool) → x ≢ node.number → is_directory (without_it node last) x ≡ is_directory left x
       kept true other = ap (λ (o : Option Node). kind_in o) ((node_set left node.number None).others x other)
       kept false other = refl
 
-      by : (same : Bool) → (x == node.number) ≡ same → links_then (links_of g t) (Some node) x ≡ links_of g then x
+      by : (same : Bool) → (x == node.number) ≡ same → links_then (links_of g t) (Some node) x ≡ links_of g (over node) x
       by true at =
           let same = eqb-true x node.number at in
           ap (λ b. cond b (links_of g t node.number - 1) (links_of g t x)) at
-          ∙ replaced_links node is was (ap (λ (y : ℕ). is_some (then y)) (sym same) ∙ some) ∙ ap (links_of g then) (sym same)
+          ∙ replaced_links node is was (ap (λ (y : ℕ). is_some ((over node) y)) (sym same) ∙ some) ∙ ap (links_of g (over node)) (sym same)
       by false at =
           let other = eqb-false x node.number at in
           let all = then_names (Some node) is x in
           let none : names_once x (slot_of t m.to.dir m.to.slot) ≡ 0 = ap (names_once x) was ∙ ap (λ b. cond b 1 0) (ne_eqb node.number x (λ same. other (sym same))) in
           ap (λ b. cond b (links_of g t node.number - 1) (links_of g t x)) at
-          ∙ links_by g t then x ((parent_set (without_it node (has_one_link g t node.number)) m.node.number m.to.dir).kinds x ∙ kept (has_one_link g t node.number) other ∙ left_kinds x)
+          ∙ links_by g t (over node) x ((parent_set (without_it node (has_one_link g t node.number)) m.node.number m.to.dir).kinds x ∙ kept (has_one_link g t node.number) other ∙ left_kinds x)
           (omega (arith, all, none))
 
   -- ---- with room for the new slot
@@ -238,3 +231,9 @@ module _ (g : Request) (z : State) (m : Move) (name : List ℕ) (may : MayMove g
 
     pub left_base : HasBase g left
     left_base = cleared_base g held m.from.dir m.from.slot held_base from_then
+
+    -- the rules of the slots of the old name's directory without it
+    pub left_rules : (parent : ℕ) → held m.from.dir ≡ Some (directory (slots_at held m.from.dir) parent) → IsDirectory g (without_slot (slots_at held m.from.dir) m.from.slot)
+    left_rules parent there = left_base.nodes m.from.dir (directory (without_slot (slots_at held m.from.dir) m.from.slot) parent)
+        (ap (λ (u : Tree). u m.from.dir) (cleared_is held m.from.dir m.from.slot (slots_at held m.from.dir) parent there)
+        ∙ (node_set held m.from.dir (Some (directory (without_slot (slots_at held m.from.dir) m.from.slot) parent))).here)

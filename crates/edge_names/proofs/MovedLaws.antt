@@ -1,5 +1,5 @@
 -- A name moved: the steps of its move together.
-use Rattle.std.proofs.Common.{◌≡◌, ◌∙◌, ℕ, ◌-◌, ◌==◌, Bool, true, false, cond, List, [], ◌∷◌, ◌++◌, map, is_some, unwrap_or, refl, sym, ap, subst, Option, Some, None}
+use Rattle.std.proofs.Common.{◌≡◌, ◌∙◌, ℕ, ◌-◌, ◌==◌, Bool, true, false, cond, List, [], ◌∷◌, ◌++◌, map, unwrap_or, refl, sym, ap, subst, Option, Some, None}
 use Rattle.edge_base.specs.declared.geometry.Request.{Request}
 use Rattle.edge_base.specs.tree.Nodes.{Node, file, indices_of}
 use Rattle.edge_base.specs.tree.Positions.{Position, data_at}

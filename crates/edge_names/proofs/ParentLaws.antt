@@ -11,7 +11,7 @@ use Rattle.edge_model.specs.Names.{with_parent}
 use Rattle.edge_model.specs.Tree.{Tree, with_node}
 use Rattle.edge_steps.proofs.NodeLaws.{node_set}
 use Rattle.edge_steps.proofs.SetLaws.{set_apart, set_as_it_was}
-use Rattle.edge_stands.specs.Stands.{StandsWith, HasSameBlocks, head_with, with_links}
+use Rattle.edge_stands.specs.Stands.{StandsWith, HasSameBlocks, head_with}
 use Rattle.edge_stands.proofs.DirtyLaws.{tree_stays}
 use Rattle.edge_stands.proofs.HeadLaws.{head_set, head_tree, same_links}
 use Rattle.edge_names.specs.Stepped.{IsStepped}

@@ -1,5 +1,5 @@
 -- Steps of a view on the way from one tree to another: one after the other, and those of a directory's slots.
-use Rattle.std.proofs.Common.{◌≡◌, ◌∙◌, ℕ, ◌/◌, true, is_some, List, [], ◌∷◌, ◌++◌, map, sym, ap, subst, Option, Some, None}
+use Rattle.std.proofs.Common.{◌≡◌, ℕ, ◌/◌, true, is_some, List, [], ◌∷◌, ◌++◌, map, sym, ap, subst, Option, Some}
 use Rattle.edge_base.specs.declared.geometry.Request.{Request}
 use Rattle.edge_base.specs.tree.Nodes.{Node, directory}
 use Rattle.edge_base.specs.tree.Positions.{Position, data_at}
@@ -10,7 +10,6 @@ use Rattle.edge_model.specs.Tree.{Tree, slots_at, with_node}
 use Rattle.edge_dir.specs.Written.{SlotsChanged}
 use Rattle.edge_steps.proofs.NodeLaws.{slots_are}
 use Rattle.edge_steps.proofs.SetLaws.{placed_is, cleared_is}
-use Rattle.edge_stands.specs.Dirtied.{TreeDirtied}
 use Rattle.edge_stands.specs.Stands.{NodeStands, StandsWith}
 use Rattle.edge_stands.proofs.DirtyLaws.{tree_twice}
 use Rattle.edge_names.specs.Stepped.{IsStepped}

@@ -1,11 +1,11 @@
 -- A node that loses a link, or is dropped with its only one.
-use Rattle.std.proofs.Common.{◌≡◌, ◌∙◌, ℕ, ◌-◌, ◌==◌, Bool, true, false, cond, is_some, List, [], map, refl, sym, ap, subst, Option, Some, None}
+use Rattle.std.proofs.Common.{◌≡◌, ◌∙◌, ℕ, ◌-◌, ◌==◌, Bool, true, false, cond, is_some, [], map, refl, sym, ap, subst, Option, Some, None}
 use Rattle.std.proofs.lemmas.Bool.{false≢true, ne_eqb}
 use Rattle.edge_base.specs.declared.geometry.Request.{Request}
 use Rattle.edge_base.specs.declared.node.Head.{Head}
 use Rattle.edge_base.specs.layout.Places.{IsGeometry}
 use Rattle.edge_base.specs.tree.Nodes.{Node, indices_of}
-use Rattle.edge_base.specs.tree.Positions.{Position, data_at}
+use Rattle.edge_base.specs.tree.Positions.{data_at}
 use Rattle.edge_store.specs.Effects.{HeadSet, InodeDropped}
 use Rattle.edge_store.specs.View.{View, IsView}
 use Rattle.edge_shape.specs.Cut.{IsCut}
