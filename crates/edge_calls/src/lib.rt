@@ -9,6 +9,7 @@ mod read;
 mod resize;
 mod session;
 mod status;
+mod unname;
 mod volume;
 mod write;
 
