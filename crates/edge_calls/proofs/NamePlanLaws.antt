@@ -1,13 +1,14 @@
 -- What unlink and rmdir plan, by the name that their path leads to.
-use Rattle.std.proofs.Common.{◌≡◌, ◌∙◌, ℕ, ◌==◌, not, Bool, true, false, List, [], ◌∷◌, length, unwrap_or, refl, sym, ap, arith, Option, Some, None}
+use Rattle.std.proofs.Common.{◌≡◌, ◌∙◌, ℕ, ◌==◌, ◌&&◌, not, Bool, true, false, List, [], ◌∷◌, length, unwrap_or, refl, sym, ap, arith, Option, Some, None}
 use Rattle.std.specs.Prelude.{Result, Ok, Err}
 use Rattle.std.proofs.lemmas.Bool.{eqb-true, ne_eqb}
-use Rattle.edge_base.specs.commands.Descriptors.{is_open}
+use Rattle.edge_base.specs.commands.Descriptors.{Descriptors, is_open}
 use Rattle.edge_base.specs.commands.Events as event
 use Rattle.edge_base.specs.commands.Paths.{is_invalid, is_too_long, names_in}
 use Rattle.edge_base.specs.commands.Refusals.{◌>>=◌, refuse_if, or_refuse}
 use Rattle.edge_base.specs.declared.geometry.Request.{Request}
 use Rattle.edge_base.specs.declared.node.Head.{Head}
+use Rattle.edge_base.specs.declared.node.NodeType.TheVariants.{Directory, File}
 use Rattle.edge_base.specs.declared.refusal.Refusal.{Refusal}
 use Rattle.edge_base.specs.declared.refusal.Refusal.TheVariants as refusal
 use Rattle.edge_base.specs.tree.Nodes.{Node, file, directory}
@@ -19,11 +20,17 @@ use Rattle.edge_model.specs.State.{State, Plan, changes}
 use Rattle.edge_model.specs.Tree.{Tree, is_directory, is_directory_node, links_of, slots_at, slots_of_node}
 use Rattle.edge_model.specs.Walk.{Spot, Found, top, within, at_spot, find_name, found_number, is_top, spot_of, walk, walk_from}
 use Rattle.edge_image.specs.Opens.{head_of_node}
-use Rattle.edge_steps.proofs.NodeLaws.{is_a_directory}
+use Rattle.edge_steps.proofs.NodeLaws.{is_a_directory, is_a_file}
 use Rattle.edge_steps.proofs.WalkLaws.{is_found}
-use Rattle.edge_volume.specs.Nodes.{head_at, head_of_some}
+use Rattle.edge_store.specs.State.{StoreState}
+use Rattle.edge_volume.specs.declared.stop.Stop.{Stop}
+use Rattle.edge_volume.specs.declared.stop.Stop.TheVariants.{Fault, Refused}
+use Rattle.edge_volume.specs.Stopped.{IfAnswered}
+use Rattle.edge_volume.specs.Volume.{StoreStands}
+use Rattle.edge_volume.specs.Nodes.{OnTree, head_at, head_of_some}
+use Rattle.edge_walk.proofs.TreeLaws.{directory_of, file_of}
 use Rattle.edge_calls.specs.declared.unname.Named.{Named}
-use Rattle.edge_calls.specs.Unnaming.{NameAt, IsLeafName, found_in, name_of, named_in}
+use Rattle.edge_calls.specs.Unnaming.{NameAt, IsLeafName, found_in, is_last, name_in, name_of, named_in, unnaming}
 
 -- ---- a walk with names never ends at the root
 
@@ -216,3 +223,32 @@ module _ (g : Request) (s : State) (path : List ℕ) where
     pub remove_plans : is_directory s.tree x.found.number ≡ true → is_empty (slots_at s.tree x.found.number) ≡ true → is_open s.descriptors x.found.number ≡ false
         → Ok (plan_name g s path x) ≡ plan_remove_dir g s path
     remove_plans kind empty free = remove_by true true false kind empty free
+
+-- ---- the node by its head
+
+pub kind_directory : (g : Request) (t : Tree) (n : ℕ) (head : Head) → Some head ≡ head_at g t n → head.kind ≡ Directory → is_directory t n ≡ true
+kind_directory g t n head is kind = let r = directory_of g t n head is kind in is_a_directory t n r.0 r.1 r.2
+
+pub kind_file : (g : Request) (t : Tree) (n : ℕ) (head : Head) → Some head ≡ head_at g t n → head.kind ≡ File → is_directory t n ≡ false
+kind_file g t n head is kind = let r = file_of g t n head is kind in is_a_file t n r.0 r.1 r.2
+
+-- whether an open descriptor keeps it
+pub busy_is : (g : Request) (s : State) (ds : Descriptors) (named : Named) → Some named.head ≡ head_at g s.tree named.number → s.descriptors ≡ ds
+    → is_busy g s named.number ≡ (is_last named && is_open ds named.number)
+busy_is g s ds named head are = λ i. (head_links g s.tree named.number named.head head i == 1) && is_open (are i) named.number
+
+-- ---- no name goes
+
+pub unlink_not : (st : StoreState) (ds : Descriptors) (path : List ℕ) (stop : Stop)
+    → IfAnswered {T = Named} (Err stop) (λ r. OnTree st (λ t. name_in r ≡ name_of st.origin.request t path refusal.IsDir))
+    → IfAnswered {T = Named} (Err stop) (λ r. (z : State) → StoreStands st z → IsTree st.origin.request z.tree → z.descriptors ≡ ds
+    → unnaming st.origin.request z r ≡ plan_unlink st.origin.request z path)
+unlink_not st ds path (Refused e) is = λ z stands tree are. unlink_refused st.origin.request z path tree e (is z stands tree)
+unlink_not st ds path (Fault fault) is = tt
+
+pub remove_not : (st : StoreState) (ds : Descriptors) (path : List ℕ) (stop : Stop)
+    → IfAnswered {T = Named} (Err stop) (λ r. OnTree st (λ t. name_in r ≡ name_of st.origin.request t path refusal.Busy))
+    → IfAnswered {T = Named} (Err stop) (λ r. (z : State) → StoreStands st z → IsTree st.origin.request z.tree → z.descriptors ≡ ds
+    → unnaming st.origin.request z r ≡ plan_remove_dir st.origin.request z path)
+remove_not st ds path (Refused e) is = λ z stands tree are. remove_refused st.origin.request z path e (is z stands tree)
+remove_not st ds path (Fault fault) is = tt

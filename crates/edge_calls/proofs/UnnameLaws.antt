@@ -2,12 +2,13 @@
 use Rattle.std.proofs.Common.{◌≡◌, ◌∙◌, ℕ, ◌/◌, ◌<◌, ◌≤◌, Bool, true, false, List, refl, sym, ap, subst, arith, Some, None}
 use Rattle.std.specs.Prelude.{Result, Ok, Err}
 use Rattle.edge_base.specs.commands.Events as event
+use Rattle.edge_base.specs.declared.refusal.Refusal.{Refusal}
 use Rattle.edge_base.specs.declared.refusal.Refusal.TheVariants as refusal
 use Rattle.edge_base.specs.layout.Places.{IsGeometry, IsWithinLimits, max_blocks_of}
 use Rattle.edge_base.specs.outside.Below.{Origin}
 use Rattle.edge_base.specs.tree.Slots.{slots_in_block}
 use Rattle.edge_store.specs.declared.fault.StoreFault.{StoreFault}
-use Rattle.edge_store.specs.Calls.{KeepsPoint}
+use Rattle.edge_store.specs.Calls.{KeepsPoint, KeepsWorking}
 use Rattle.edge_store.specs.State.{StoreState, Told}
 use Rattle.edge_store.specs.View.{View, IsView}
 use Rattle.edge_space.specs.declared.change.Change.{Change}
@@ -21,22 +22,25 @@ use Rattle.edge_model.specs.Bytes.{IsOfBytes}
 use Rattle.edge_model.specs.Named.{without_slot}
 use Rattle.edge_model.specs.Rules.{IsTree}
 use Rattle.edge_model.specs.State.{State, Plan, Edit, changes}
+use Rattle.edge_model.specs.Step.{plan}
 use Rattle.edge_model.specs.Tree.{Tree, slots_at}
 use Rattle.edge_changes.specs.Edited.{IsEdited}
 use Rattle.edge_volume.specs.declared.stop.Stop.{Stop}
 use Rattle.edge_volume.specs.declared.stop.Stop.TheVariants.{Refused, Fault}
+use Rattle.edge_volume.specs.Stopped.{fault_of, IfAnswered}
 use Rattle.edge_volume.specs.Volume.{VolumeState, StoreStands, VolumeStands, request_of, opens_of, point_after, trees_after, points_due}
-use Rattle.edge_volume.specs.Nodes.{IsNodeOf}
-use Rattle.edge_volume.specs.Parts.{EndsBy, TakesUpTo, Comes}
+use Rattle.edge_volume.specs.Nodes.{IsNodeOf, OnTree}
+use Rattle.edge_volume.specs.Parts.{EndsBy, TakesUpTo, IsOfNoDamage, Comes}
 use Rattle.edge_volume.specs.Did.{KeepsMask, KeepsOpen, Did}
-use Rattle.edge_volume.proofs.DidLaws.{mask_kept}
+use Rattle.edge_volume.proofs.DidLaws.{did_fault, did_refused, mask_kept}
+use Rattle.edge_volume.proofs.FaultLaws.{ends_none}
 use Rattle.edge_volume.proofs.OpenLaws.{same_opens}
 use Rattle.edge_walk.specs.Reached.{IsHolder}
 use Rattle.edge_names.specs.Unnamed.{HasRoomToClear, MayUnname, NeverUnnaming}
 use Rattle.edge_names.proofs.SlotRoomLaws.{room_to_clear}
 use Rattle.edge_room.specs.Room.{HasRoomWhere, NamesEdit}
 use Rattle.edge_calls.specs.declared.unname.Named.{Named}
-use Rattle.edge_calls.specs.Unnaming.{IsLeafName, IsNamedNode, PlansToUnname, TakesAway, Unnames, is_last, of_directory, of_file, unnaming_edit}
+use Rattle.edge_calls.specs.Unnaming.{IsLeafName, IsNamedNode, PlansToUnname, TakesAway, Unnames, is_last, of_directory, of_file, unnaming, unnaming_edit}
 use Rattle.edge_calls.proofs.NameEditLaws.{edit_is, is_cleared, may_unname, unnaming_named}
 use Rattle.edge_calls.proofs.RoomLaws.{IsLooked, Judges, Fits, PlansAs, IsCarrying, edit_tree, did_without_room, did_in_judgement, did_in_change, did_in_point, did_answer}
 
@@ -71,11 +75,54 @@ named_still one two named origin working is = record {
   };
 }
 
+-- ---- before it is known
+
+-- what is told of a name, as what a command plans
+abbrev pub TellsPlan : VolumeState → Asked → Result Named Refusal → Type 0
+TellsPlan v command r = (z : State) → StoreStands v.store z → IsTree (request_of v) z.tree → z.descriptors ≡ v.descriptors
+    → unnaming (request_of v) z r ≡ plan (request_of v) z command
+
+-- it is refused, or a fault comes, before the name is known
+pub unname_stopped : (command : Asked) → Unnames command → (old last : VolumeState) (out : List ℕ) (stop : Stop) → last.mask ≡ old.mask → last.descriptors ≡ old.descriptors
+    → EndsBy (fault_of {T = Named} (Err stop)) old.store last.store → KeepsPoint old.store last.store → (fault_of {T = Named} (Err stop) ≡ None → KeepsWorking old.store last.store)
+    → OnTree old.store (λ t. IsOfNoDamage (fault_of {T = Named} (Err stop))) → IfAnswered {T = Named} (Err stop) (TellsPlan old command) → Did command (Err stop) old last out
+unname_stopped command unnames old last out (Refused e) mask are ends point reads undamaged told =
+    did_refused command old last out e ends point (reads refl) mask are (keeps_mask command unnames _ old last mask) (keeps_open command unnames _ old last (same_opens old last are))
+    (λ of_bytes s stands. sym (told s stands.store stands.session.trees.tree (sym stands.descriptors)))
+unname_stopped command unnames old last out (Fault fault) mask are ends point reads undamaged told =
+    did_fault command old last out fault ends point mask (λ x. same_opens old last are) (λ s stands. undamaged s stands.store stands.session.trees.tree)
+
+-- a state that a store stands for after some reading it stood for before
+stood : (one two : StoreState) (z : State) → IsLooked one two → StoreStands two z → StoreStands one z
+stood one two z looked stands = record {
+  told = ap (λ (o : Origin). o.tells) (sym looked.ends.origin) ∙ stands.told;
+  whole = sym looked.point.under_way ∙ stands.whole;
+  views = rw (sym looked.ends.origin, sym looked.point.committed, sym looked.working.working) stands.views;
+}
+
+-- what was told as the name was looked for holds of what follows
+pub to_unname : (command : Asked) (old mid : VolumeState) (named : Named) → IsLooked old.store mid.store → mid.descriptors ≡ old.descriptors → TellsPlan old command (Ok named)
+    → OnTree old.store (λ t. IsLeafName (request_of old) t named) → PlansToUnname command mid named
+to_unname command old mid named looked are told leaf s stands =
+    let before = stood old.store mid.store s looked stands.store in
+    let tree = subst (λ (o : Origin). IsTree o.request s.tree) looked.ends.origin stands.session.trees.tree in
+    (
+      subst (λ (o : Origin). plan o.request s command ≡ unnaming o.request s (Ok named)) (sym looked.ends.origin) (sym (told s before tree (sym stands.descriptors ∙ are))),
+      subst (λ (o : Origin). IsLeafName o.request s.tree named) (sym looked.ends.origin) (leaf s before tree),
+    )
+
 -- ---- ends
 
 module _ (command : Asked) (unnames : Unnames command) (named : Named) (old : VolumeState) (out : List ℕ) (to : PlansToUnname command old named) (geometry : IsGeometry (request_of old))
     (limits_old : IsWithinLimits (request_of old)) (low : named.slot / slots_in_block (request_of old) < max_blocks_of (request_of old)) (full : Bool) (is_full : full ≡ event.has_event old.mask event.full)
-    (looked : IsLooked old.store old.store) where
+    (live : old.store.live ≡ true) where
+  looked : IsLooked old.store old.store
+  looked = record {
+    ends = ends_none old.store live;
+    point = record { committed = refl; points = refl; under_way = refl };
+    working = record { working = refl; places = refl };
+  }
+
   abbrev changed : Change
   changed = change.Slots None (Some (record { dir = named.d; slot = named.slot }))
 

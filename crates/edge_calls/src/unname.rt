@@ -1,4 +1,5 @@
-ghost use Rattle.std.specs.Prelude.{◌≡◌, ◌≤◌, ◌^◌, ℕ, List, IfOk, OnOk};
+ghost use Rattle.std.specs.Prelude.{◌≡◌, ◌≤◌, ◌&&◌, ◌^◌, ℕ, List, Some, IfOk, OnOk};
+ghost use Rattle.edge_base.specs.commands.Descriptors.{is_open};
 ghost use Rattle.edge_store.specs.Calls.{KeepsPoint};
 ghost use Rattle.edge_store.specs.State.{IsLive};
 ghost use Rattle.edge_model.specs.Asked as command;
@@ -65,6 +66,13 @@ fn named_at<S: Store>(s: &mut S, path: &[u8], at_root: Refusal) -> Result<Named,
     })
 }
 
+/// Whether an open descriptor keeps a node that would be dropped with its name.
+fn is_busy(named: &Named, handles: &Handles) -> bool
+    ensures { result ≡ (is_last named.now && is_open handles.now named.now.number) }
+{
+    named.head.links == 1 && handles.holds(named.number)
+}
+
 /// The name of a file that a path leads to and that may go. The last name of an open file stays.
 fn file_named<S: Store>(s: &mut S, handles: &Handles, path: &[u8]) -> Result<Named, Stop>
     requires live { IsLive (S.state s.old) }
@@ -83,7 +91,7 @@ fn file_named<S: Store>(s: &mut S, handles: &Handles, path: &[u8]) -> Result<Nam
         NodeType::Directory => return Err(Stop::Refused(Refusal::IsDir)),
         NodeType::File => {}
     }
-    if named.head.links == 1 && handles.holds(named.number) {
+    if is_busy(&named, handles) {
         return Err(Stop::Refused(Refusal::Busy));
     }
     Ok(named)
