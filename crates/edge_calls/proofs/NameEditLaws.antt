@@ -1,11 +1,10 @@
 -- The change by which a name goes, and its node with the last one: where it may be made, and which change of slots it is.
-use Rattle.std.proofs.Common.{◌≡◌, ◌≢◌, ◌∙◌, ℕ, ◌+◌, ◌-◌, ◌/◌, ◌<◌, ◌≤◌, ◌==◌, ◌&&◌, ◌||◌, Bool, true, false, List, [], ◌∷◌, ◌++◌, map, filter, is_some, refl, sym, ap, subst, arith, Option, Some, None}
+use Rattle.std.proofs.Common.{◌≡◌, ◌≢◌, ◌∙◌, ℕ, ◌+◌, ◌-◌, ◌/◌, ◌<◌, ◌≤◌, ◌==◌, ◌&&◌, ◌||◌, Bool, true, false, List, [], ◌∷◌, filter, is_some, refl, sym, ap, subst, arith, Option, Some, None}
 use Rattle.std.specs.Prelude.{nat_le, nat_lt}
 use Rattle.std.specs.Cmp.{both_ways}
-use Rattle.std.specs.List.{list_any, range_with_len}
+use Rattle.std.specs.List.{range_with_len}
 use Rattle.std.proofs.lemmas.Bool.{and_parts, and_from, leb-true, le-leb}
 use Rattle.edge_base.specs.declared.geometry.Request.{Request}
-use Rattle.edge_base.specs.outside.Below.{Origin}
 use Rattle.edge_base.specs.tree.Nodes.{Node, directory}
 use Rattle.edge_base.specs.tree.Positions.{Position, same_position, data_at, has}
 use Rattle.edge_base.specs.tree.Slots.{Slots, slot_blocks, slots_in_block}
@@ -14,15 +13,14 @@ use Rattle.edge_shape.proofs.ListLaws.{any-filter, range_found, range_some}
 use Rattle.edge_count.specs.Cuts.{removed}
 use Rattle.edge_count.proofs.WriteLaws.{any_map}
 use Rattle.edge_file.proofs.RangeLaws.{any_alike, lists}
-use Rattle.edge_space.specs.declared.change.Change.{Change}
 use Rattle.edge_space.specs.declared.change.Change.TheVariants as change
 use Rattle.edge_space.specs.declared.change.SlotAt.{SlotAt}
 use Rattle.edge_space.specs.Slots.{IsCleared}
 use Rattle.edge_model.specs.Named.{cleared, clear_removes, clear_writes, without_slot}
-use Rattle.edge_model.specs.Names.{has_one_link, unnamed}
+use Rattle.edge_model.specs.Names.{unnamed}
 use Rattle.edge_model.specs.Rules.{IsTree}
 use Rattle.edge_model.specs.State.{State, Edit}
-use Rattle.edge_model.specs.Tree.{Tree, data_positions, slots_at, with_node}
+use Rattle.edge_model.specs.Tree.{Tree, slots_at, with_node}
 use Rattle.edge_image.specs.Opens.{StandsFor}
 use Rattle.edge_steps.proofs.CountLaws.{slot_names}
 use Rattle.edge_steps.proofs.NodeLaws.{node_set, slot_in_directory}

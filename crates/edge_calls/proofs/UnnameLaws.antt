@@ -1,5 +1,5 @@
 -- What unlink and rmdir do once it is known which name goes, at each of their ends.
-use Rattle.std.proofs.Common.{◌≡◌, ◌∙◌, ℕ, ◌/◌, ◌<◌, ◌≤◌, Bool, true, false, List, refl, sym, ap, subst, arith, Some, None}
+use Rattle.std.proofs.Common.{◌≡◌, ◌∙◌, ℕ, ◌/◌, ◌<◌, Bool, true, false, List, refl, sym, ap, subst, arith, Some, None}
 use Rattle.std.specs.Prelude.{Result, Ok, Err}
 use Rattle.edge_base.specs.commands.Events as event
 use Rattle.edge_base.specs.declared.refusal.Refusal.{Refusal}
@@ -10,10 +10,9 @@ use Rattle.edge_base.specs.tree.Slots.{slots_in_block}
 use Rattle.edge_store.specs.declared.fault.StoreFault.{StoreFault}
 use Rattle.edge_store.specs.Calls.{KeepsPoint, KeepsWorking}
 use Rattle.edge_store.specs.State.{StoreState, Told}
-use Rattle.edge_store.specs.View.{View, IsView}
+use Rattle.edge_store.specs.View.{IsView}
 use Rattle.edge_space.specs.declared.change.Change.{Change}
 use Rattle.edge_space.specs.declared.change.Change.TheVariants as change
-use Rattle.edge_space.specs.Slots.{IsCleared}
 use Rattle.edge_model.specs.declared.command.Answer.{Answer}
 use Rattle.edge_model.specs.declared.command.Answer.TheVariants as a
 use Rattle.edge_model.specs.Asked.{Asked, done}
@@ -29,13 +28,12 @@ use Rattle.edge_volume.specs.declared.stop.Stop.{Stop}
 use Rattle.edge_volume.specs.declared.stop.Stop.TheVariants.{Refused, Fault}
 use Rattle.edge_volume.specs.Stopped.{fault_of, IfAnswered}
 use Rattle.edge_volume.specs.Volume.{VolumeState, StoreStands, VolumeStands, request_of, opens_of, point_after, trees_after, points_due}
-use Rattle.edge_volume.specs.Nodes.{IsNodeOf, OnTree}
+use Rattle.edge_volume.specs.Nodes.{OnTree}
 use Rattle.edge_volume.specs.Parts.{EndsBy, TakesUpTo, IsOfNoDamage, Comes}
 use Rattle.edge_volume.specs.Did.{KeepsMask, KeepsOpen, Did}
 use Rattle.edge_volume.proofs.DidLaws.{did_fault, did_refused, mask_kept}
 use Rattle.edge_volume.proofs.FaultLaws.{ends_none}
 use Rattle.edge_volume.proofs.OpenLaws.{same_opens}
-use Rattle.edge_walk.specs.Reached.{IsHolder}
 use Rattle.edge_names.specs.Unnamed.{HasRoomToClear, MayUnname, NeverUnnaming}
 use Rattle.edge_names.proofs.SlotRoomLaws.{room_to_clear}
 use Rattle.edge_room.specs.Room.{HasRoomWhere, NamesEdit}
@@ -105,8 +103,7 @@ pub to_unname : (command : Asked) (old mid : VolumeState) (named : Named) → Is
     → OnTree old.store (λ t. IsLeafName (request_of old) t named) → PlansToUnname command mid named
 to_unname command old mid named looked are told leaf s stands =
     let before = stood old.store mid.store s looked stands.store in
-    let tree = subst (λ (o : Origin). IsTree o.request s.tree) looked.ends.origin stands.session.trees.tree in
-    (
+    let tree = subst (λ (o : Origin). IsTree o.request s.tree) looked.ends.origin stands.session.trees.tree in (
       subst (λ (o : Origin). plan o.request s command ≡ unnaming o.request s (Ok named)) (sym looked.ends.origin) (sym (told s before tree (sym stands.descriptors ∙ are))),
       subst (λ (o : Origin). IsLeafName o.request s.tree named) (sym looked.ends.origin) (leaf s before tree),
     )

@@ -14,7 +14,8 @@ ghost use Rattle.edge_volume.specs.Parts.{EndsBy, Looks, IsOfNoDamage};
 ghost use Rattle.edge_volume.specs.Did.{Did};
 ghost use Rattle.edge_names.specs.Unnamed.{NeverUnnaming};
 ghost use Rattle.edge_calls.specs.State.{volume_of};
-ghost use Rattle.edge_calls.specs.Unnaming.{IsNamedNode, IsLeafName, PlansToUnname, TakesAway, Unnames, is_last, name_in, name_of, unnaming};
+ghost use Rattle.edge_calls.specs.Unnaming.{IsNamedNode, IsLeafName, PlansToUnname, Unnames};
+ghost use Rattle.edge_calls.specs.Unnaming.{TakesAway, is_last, name_in, name_of, unnaming};
 
 use crate::volume::Volume;
 use edge_base::{Head, NodeType, Refusal};
