@@ -15,3 +15,6 @@ pub mod ContentLaws
 pub mod ReadLaws
 pub mod SlotLaws
 pub mod ReadDirLaws
+pub mod NamePlanLaws
+pub mod NameEditLaws
+pub mod UnnameLaws

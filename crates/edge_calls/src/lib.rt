@@ -11,6 +11,7 @@ mod resize;
 mod session;
 mod status;
 mod vacant;
+mod unname;
 mod volume;
 mod write;
 
