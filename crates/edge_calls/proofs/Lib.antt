@@ -17,3 +17,5 @@ pub mod SlotLaws
 pub mod ReadDirLaws
 pub mod VacancyLaws
 pub mod MakeLaws
+pub mod PutLaws
+pub mod MakeDirLaws
