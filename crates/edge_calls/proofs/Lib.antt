@@ -19,3 +19,5 @@ pub mod VacancyLaws
 pub mod MakeLaws
 pub mod PutLaws
 pub mod MakeDirLaws
+pub mod LinkPlanLaws
+pub mod LinkLaws
