@@ -99,7 +99,8 @@ file_there g t names n tree is =
     let k = after_test (is_directory t (o.0).number) refusal.IsDir _ n o.2 in
     let same : (o.0).number ≡ n = ok_is (o.0).number n (Ok (o.0).number) refl k.1 in (
       subst (λ (m : ℕ). is_some (t m) ≡ true) same (found_there g t w.0 o.0 tree (is_some_of (at_spot t w.0) refusal.NoEntry o.0 o.1)),
-      subst (λ (m : ℕ). is_directory t m ≡ false) same k.0)
+      subst (λ (m : ℕ). is_directory t m ≡ false) same k.0,
+    )
 
 -- the vacancy of a spot is in its directory
 vacancy_is : (t : Tree) (spot : Spot) (at : NewName) → vacancy_of t spot ≡ Ok at → (spot ≡ within at.d at.name) × (at.slot ≡ first_empty (slots_at t at.d))

@@ -122,14 +122,7 @@ impl<S: Store> Volume<S> {
         if !has_room(&mut self.store, full, &change, RESERVE)? {
             return Err(Stop::Refused(Refusal::NoSpace));
         }
-        add_name(
-            &mut self.store,
-            file.n,
-            file.head,
-            at.d,
-            at.slot,
-            at.name,
-        )?;
+        add_name(&mut self.store, file.n, file.head, at.d, at.slot, at.name)?;
         take_point(&mut self.store, self.mask.has(Events::LINK))?;
         Ok(Answer::Done)
     }
