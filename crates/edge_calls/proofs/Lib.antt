@@ -18,3 +18,9 @@ pub mod ReadDirLaws
 pub mod NamePlanLaws
 pub mod NameEditLaws
 pub mod UnnameLaws
+pub mod VacancyLaws
+pub mod MakeLaws
+pub mod PutLaws
+pub mod MakeDirLaws
+pub mod LinkPlanLaws
+pub mod LinkLaws
