@@ -6,7 +6,7 @@ use Rattle.edge_base.specs.layout.Places.{max_blocks_of}
 use Rattle.edge_base.specs.tree.NodeRules.{IsDirectory, IsEntry}
 use Rattle.edge_base.specs.tree.Nodes.{Node, directory}
 use Rattle.edge_base.specs.tree.Slots.{Entry, slots_in_block}
-use Rattle.edge_model.specs.Named.{placed, cleared, with_slot, without_slot}
+use Rattle.edge_model.specs.Named.{cleared, with_slot, without_slot}
 use Rattle.edge_model.specs.Names.{renamed, has_one_link}
 use Rattle.edge_model.specs.State.{State, Edit}
 use Rattle.edge_model.specs.Tree.{Tree, is_directory, links_of, names_of_number, slots_at, with_node}
@@ -23,18 +23,13 @@ use Rattle.edge_steps.proofs.SlotLaws.{IsNewIn, slot_in, slot_inside, to_slotwis
 use Rattle.edge_steps.proofs.WalkLaws.{not_found}
 use Rattle.edge_stands.specs.Stands.{with_links}
 use Rattle.edge_names.specs.Moved.{MayMove, IsPlaced, moved, number_of}
+use Rattle.edge_names.specs.Stepped.{held_of, new_entry}
 use Rattle.edge_names.specs.declared.moves.Move.{Move}
 use Rattle.edge_names.specs.declared.moves.NamedNode.{NamedNode}
 use Rattle.edge_names.proofs.LinkLaws.{kind_in, links_by, slots_in}
 use Rattle.edge_names.proofs.ParentLaws.{parent_others}
 
--- the new slot, the tree with both names, and the one with the new name alone
-abbrev pub new_entry : Move → List ℕ → Entry
-new_entry m name = record { name = name; number = m.node.number }
-
-abbrev pub held_of : Tree → Move → List ℕ → Tree
-held_of t m name = placed t m.to.dir m.to.slot (new_entry m name)
-
+-- the tree with the new name alone
 abbrev pub left_of : Tree → Move → List ℕ → Tree
 left_of t m name = cleared (held_of t m name) m.from.dir m.from.slot
 

@@ -14,10 +14,10 @@ use Rattle.edge_stands.specs.Dirtied.{TreeDirtied}
 use Rattle.edge_stands.specs.Stands.{with_links}
 use Rattle.edge_stands.proofs.NodeLaws.{agreed_links}
 use Rattle.edge_names.specs.Moved.{MayMove, IsPlaced, moved}
-use Rattle.edge_names.specs.Stepped.{IsStepped}
+use Rattle.edge_names.specs.Stepped.{IsStepped, held_of}
 use Rattle.edge_names.specs.declared.moves.Move.{Move}
 use Rattle.edge_names.specs.declared.moves.NamedNode.{NamedNode}
-use Rattle.edge_names.proofs.MoveTreeLaws.{held_of, left_of, edit_of, old_entry, then_links, was_there}
+use Rattle.edge_names.proofs.MoveTreeLaws.{left_of, edit_of, old_entry, then_links, was_there}
 use Rattle.edge_names.proofs.ParentLaws.{parent_apart}
 use Rattle.edge_names.proofs.StepLaws.{step_on}
 

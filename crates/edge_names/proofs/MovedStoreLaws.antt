@@ -27,11 +27,11 @@ use Rattle.edge_stands.specs.Stands.{StandsWith, head_with, with_links}
 use Rattle.edge_volume.specs.Nodes.{IsNodeOf}
 use Rattle.edge_volume.specs.Volume.{StoreStands}
 use Rattle.edge_names.specs.Moved.{IsPlaced, MayMove, moved}
-use Rattle.edge_names.specs.Stepped.{HasNamed, IsStepped, PutsName, SetsParent, Steps, TakesLink}
+use Rattle.edge_names.specs.Stepped.{HasNamed, IsStepped, PutsName, SetsParent, Steps, TakesLink, held_of}
 use Rattle.edge_names.specs.declared.moves.Move.{Move}
 use Rattle.edge_names.specs.declared.moves.NamedNode.{NamedNode}
 use Rattle.edge_names.proofs.MovedLaws.{moved_alone, moved_over}
-use Rattle.edge_names.proofs.MoveTreeLaws.{held_of, inside_from, left_of, left_others}
+use Rattle.edge_names.proofs.MoveTreeLaws.{inside_from, left_of, left_others}
 use Rattle.edge_names.proofs.ParentLaws.{parent_others}
 use Rattle.edge_names.proofs.PutLaws.{clear_step, from_node, from_parent, from_rules, from_set}
 use Rattle.edge_names.proofs.UnnamedLaws.{blocks_written, blocks_removed}

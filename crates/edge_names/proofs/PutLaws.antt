@@ -19,9 +19,9 @@ use Rattle.edge_stands.specs.Stands.{StandsWith}
 use Rattle.edge_stands.proofs.NodeLaws.{with_links_of}
 use Rattle.edge_stands.proofs.StandingLaws.{each_node}
 use Rattle.edge_names.specs.Moved.{MayMove}
-use Rattle.edge_names.specs.Stepped.{IsStepped}
+use Rattle.edge_names.specs.Stepped.{IsStepped, held_of, new_entry}
 use Rattle.edge_names.specs.declared.moves.Move.{Move}
-use Rattle.edge_names.proofs.MoveTreeLaws.{held_base, held_of, left_of, from_then, inside_to, new_entry, left_rules}
+use Rattle.edge_names.proofs.MoveTreeLaws.{held_base, left_of, from_then, inside_to, left_rules}
 use Rattle.edge_names.proofs.StepLaws.{placed_step, cleared_step}
 use Rattle.edge_names.proofs.StoreLaws.{filled_slot}
 use Rattle.edge_names.proofs.UnnamedLaws.{blocks_written, blocks_removed}

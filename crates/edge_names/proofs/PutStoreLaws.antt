@@ -28,11 +28,11 @@ use Rattle.edge_space.specs.Changes.{IsWithin}
 use Rattle.edge_space.specs.declared.change.Change.TheVariants.{Slots}
 use Rattle.edge_volume.specs.Volume.{StoreStands}
 use Rattle.edge_names.specs.Moved.{HasRoomToMove, MayMove}
-use Rattle.edge_names.specs.Stepped.{KeepsNodes, LeavesRoomToClear, PutsName, Steps}
+use Rattle.edge_names.specs.Stepped.{KeepsNodes, LeavesRoomToClear, PutsName, Steps, held_of, new_entry}
 use Rattle.edge_names.specs.declared.moves.Move.{Move}
 use Rattle.edge_names.specs.declared.moves.NamedNode.{NamedNode}
 use Rattle.edge_names.proofs.MoveRoomLaws.{room_to_place, room_to_clear_then}
-use Rattle.edge_names.proofs.MoveTreeLaws.{held_of, inside_to, new_entry, old_entry, was_there}
+use Rattle.edge_names.proofs.MoveTreeLaws.{inside_to, old_entry, was_there}
 use Rattle.edge_names.proofs.PutLaws.{put_step, to_node, to_parent, to_rules, to_set}
 
 -- ---- on every view

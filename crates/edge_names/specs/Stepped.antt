@@ -4,6 +4,7 @@ use Rattle.std.specs.Prelude.{◌≡◌, ◌≤◌, ◌-◌, ◌==◌, ℕ, if�
 use Rattle.edge_base.specs.declared.geometry.Request.{Request}
 use Rattle.edge_base.specs.tree.Nodes.{Node, indices_of}
 use Rattle.edge_base.specs.tree.Positions.{Position, data_at}
+use Rattle.edge_base.specs.tree.Slots.{Entry, Slots}
 use Rattle.edge_store.specs.declared.fault.StoreFault.{StoreFault}
 use Rattle.edge_store.specs.State.{StoreState, Told, HasInode}
 use Rattle.edge_store.specs.View.{View, free_now}
@@ -31,24 +32,37 @@ pub record IsStepped (g : Request) (c v w : View) (t u : Tree) (links : ℕ → 
 abbrev pub Steps : StoreState → StoreState → Tree → Tree → (ℕ → ℕ) → List Position → List Position → Type 0
 Steps old new t u links writes removes = IsStepped old.origin.request old.committed old.working new.working t u links writes removes
 
--- Each number that has an inode has one afterwards, and each directory is one.
+-- each number that has an inode has one afterwards
+abbrev pub KeepsInodes : StoreState → StoreState → Type 0
+KeepsInodes old new = (n : ℕ) → HasInode old n → HasInode new n
+
+-- So it does, and each directory is one.
 pub record KeepsNodes (old new : StoreState) : Type 0 where
-  pub inodes : (n : ℕ) → HasInode old n → HasInode new n
+  pub inodes : KeepsInodes old new
   pub directories : (n : ℕ) → IsDirectoryNode old n → IsDirectoryNode new n
 
 -- ---- the name
 
+abbrev pub new_entry : Move → List ℕ → Entry
+new_entry m name = record { name = name; number = m.node.number }
+
+-- the tree with both names
+abbrev pub held_of : Tree → Move → List ℕ → Tree
+held_of t m name = placed t m.to.dir m.to.slot (new_entry m name)
+
+-- and the slots of the old one's directory when that is cleared
+abbrev pub left_slots : Tree → Move → List ℕ → Slots
+left_slots t m name = without_slot (slots_at (held_of t m name) m.from.dir) m.from.slot
+
 -- Where the name may be moved it is put into its new slot.
 abbrev pub PutsName : StoreState → StoreState → Move → List ℕ → Type 0
 PutsName old new m name = (z : State) → StoreStands old z → MayMove old.origin.request z m name
-    → Steps old new z.tree (placed z.tree m.to.dir m.to.slot (record { name = name; number = m.node.number })) (links_of old.origin.request z.tree)
-    (slot_position old.origin.request m.to.dir m.to.slot ∷ []) []
+    → Steps old new z.tree (held_of z.tree m name) (links_of old.origin.request z.tree) (slot_position old.origin.request m.to.dir m.to.slot ∷ []) []
 
 -- and where there is room for a move there is room left to clear its old slot
 abbrev pub LeavesRoomToClear : StoreState → StoreState → Move → List ℕ → Type 0
 LeavesRoomToClear old new m name = (z : State) → StoreStands old z → MayMove old.origin.request z m name → HasRoomToMove old m.to m.from
-    → clearing_need new m.from.dir m.from.slot (without_slot (slots_at (placed z.tree m.to.dir m.to.slot (record { name = name; number = m.node.number })) m.from.dir) m.from.slot)
-    ≤ free_now new.origin.request new.committed new.working
+    → clearing_need new m.from.dir m.from.slot (left_slots z.tree m name) ≤ free_now new.origin.request new.committed new.working
 
 -- ---- a node
 

@@ -1,4 +1,4 @@
-ghost use Rattle.std.specs.Prelude.{◌≡◌, ◌≤◌, ℕ, true, length, IfSome, OnOk, Some};
+ghost use Rattle.std.specs.Prelude.{◌≡◌, ◌≤◌, true, length, IfSome, OnOk, Some};
 ghost use Rattle.edge_space.specs.Answers.{AreThere};
 ghost use Rattle.edge_space.specs.Changes.{IsWithin};
 ghost use Rattle.edge_space.specs.declared.change.Change.TheVariants.{Slots};
@@ -9,7 +9,7 @@ ghost use Rattle.edge_volume.specs.Stopped.{fault_in};
 ghost use Rattle.edge_volume.specs.Parts.{EndsBy};
 ghost use Rattle.edge_volume.specs.Nodes.{IsNodeOf};
 ghost use Rattle.edge_names.specs.Moved.{Moves, NeverMoving};
-ghost use Rattle.edge_names.specs.Stepped.{KeepsNodes, LeavesRoomToClear, PutsName, NeverOnNamed, SetsParent, TakesLink};
+ghost use Rattle.edge_names.specs.Stepped.{KeepsInodes, KeepsNodes, LeavesRoomToClear, PutsName, NeverOnNamed, SetsParent, TakesLink};
 
 use edge_base::{Head, NodeType};
 use edge_cut::cut_from;
@@ -66,7 +66,7 @@ fn set_parent<S: Store>(s: &mut S, node: NamedNode, parent: u32) -> Result<(), S
     requires rules { is_head node.head ≡ true }
     ensures ends { EndsBy (fault_in result) (S.state s.old) (S.state s.new) }
     ensures point { KeepsPoint (S.state s.old) (S.state s.new) }
-    ensures keeps { OnOk result ((n : ℕ) → HasInode (S.state s.old) n → HasInode (S.state s.new) n) }
+    ensures keeps { OnOk result (KeepsInodes (S.state s.old) (S.state s.new)) }
     ensures undamaged { NeverOnNamed (S.state s.old) node (fault_in result) }
     ensures set { OnOk result (SetsParent (S.state s.old) (S.state s.new) node parent) }
 {

@@ -7,7 +7,7 @@ use Rattle.edge_base.specs.tree.Slots.{slot_bytes}
 use Rattle.edge_store.specs.declared.fault.StoreFault.{StoreFault}
 use Rattle.edge_cut.proofs.GoLaws.{on_ok_map}
 use Rattle.edge_volume.specs.Stopped.{fault_in}
-use Rattle.edge_names.proofs.MoveTreeLaws.{new_entry}
+use Rattle.edge_names.specs.Stepped.{new_entry}
 use Rattle.edge_names.proofs.PutLaws.{to_node, to_parent}
 use Rattle.edge_names.proofs.PutStoreLaws.{entry_length, keeps_ok, put_placed, put_replaced, room_ok, room_to_put}
 use Rattle.edge_names.proofs.moves.put_name.Goals as goal
