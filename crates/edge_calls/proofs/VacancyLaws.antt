@@ -1,5 +1,5 @@
 -- Where a new name goes, by what was found, in the words of the tree.
-use Rattle.std.proofs.Common.{◌≡◌, ◌∙◌, ℕ, ◌+◌, not, Bool, true, false, cond, List, [], ◌∷◌, count_by, find, is_some, refl, sym, ap, Option, Some, None}
+use Rattle.std.proofs.Common.{◌≡◌, ◌∙◌, ℕ, ◌+◌, not, Bool, true, false, cond, List, [], ◌∷◌, count_by, find, is_some, refl, sym, ap, arith, Option, Some, None}
 use Rattle.std.specs.Prelude.{Result, Ok, Err}
 use Rattle.edge_base.specs.commands.Descriptors.{first_empty}
 use Rattle.edge_base.specs.commands.Refusals.{◌>>=◌, refuse_if, or_refuse}
@@ -36,19 +36,19 @@ module _ (t : Tree) (d : ℕ) (name : List ℕ) where
 
 none_counted : (test : ℕ → Bool) (xs : List ℕ) → count_by test xs ≡ 0 → find test xs ≡ None
 none_counted test [] none = refl
-none_counted test (x ∷ xs) none = by (test x) refl none
+none_counted test (x ∷ xs) none = by (test x) none (none_counted test xs)
   where
-    by : (b : Bool) → test x ≡ b → cond b (1 + count_by test xs) (count_by test xs) ≡ 0 → cond b (Some x) (find test xs) ≡ None
-    by true is none = absurd (cc)
-    by false is none = none_counted test xs none
+    by : (b : Bool) → cond b (1 + count_by test xs) (count_by test xs) ≡ 0 → (count_by test xs ≡ 0 → find test xs ≡ None) → cond b (Some x) (find test xs) ≡ None
+    by true none rest = absurd (omega (arith, none))
+    by false none rest = rest none
 
 none_found : (test : ℕ → Bool) (xs : List ℕ) → find test xs ≡ None → count_by test xs ≡ 0
 none_found test [] none = refl
-none_found test (x ∷ xs) none = by (test x) refl none
+none_found test (x ∷ xs) none = by (test x) none (none_found test xs)
   where
-    by : (b : Bool) → test x ≡ b → cond b (Some x) (find test xs) ≡ None → cond b (1 + count_by test xs) (count_by test xs) ≡ 0
-    by true is none = absurd (cc)
-    by false is none = none_found test xs none
+    by : (b : Bool) → cond b (Some x) (find test xs) ≡ None → (find test xs ≡ None → count_by test xs ≡ 0) → cond b (1 + count_by test xs) (count_by test xs) ≡ 0
+    by true none rest = absurd (cc)
+    by false none rest = rest none
 
 abbrev free_in : Reply → ℕ
 free_in (room r) = r.free_inodes
