@@ -23,8 +23,17 @@ use Rattle.edge_model.proofs.WalkLaws.{walk_in_directory}
 use Rattle.edge_names.specs.Linked.{linked}
 use Rattle.edge_steps.proofs.PlanLaws.{found_there}
 use Rattle.edge_steps.proofs.WalkLaws.{after_part, after_test}
-use Rattle.edge_calls.specs.Links.{NewLink, file_at, link_of, vacancy_at}
-use Rattle.edge_calls.specs.Makes.{NewName, is_behind, vacancy_of}
+use Rattle.edge_store.specs.declared.store.Store.{Ghosts as StoreGhosts}
+use Rattle.edge_volume.specs.declared.stop.Stop.{Stop}
+use Rattle.edge_volume.specs.declared.stop.Stop.TheVariants.{Refused, Fault}
+use Rattle.edge_volume.specs.Nodes.{OnTree}
+use Rattle.edge_volume.specs.Parts.{Looks}
+use Rattle.edge_volume.specs.Stopped.{IfAnswered}
+use Rattle.edge_walk.proofs.StillLaws.{on_tree_before}
+use Rattle.edge_calls.specs.declared.link.Linking.{Linking}
+use Rattle.edge_calls.specs.declared.vacant.Vacancy.{Vacancy}
+use Rattle.edge_calls.specs.Links.{NewLink, file_at, link_in, link_of, vacancy_at}
+use Rattle.edge_calls.specs.Makes.{NewName, is_behind, vacancy_of, vacated}
 
 -- the plan of a file that gets a further name
 abbrev pub link_plan : Request → State → NewLink → Plan
@@ -148,3 +157,13 @@ link_may g t path to x tree is =
       directory = walk_in_directory t (names_in to) (v.0).d (v.0).name (w.1 ∙ ap Ok at.0);
       room = inside_room g t (v.0).d (v.0).slot at.1 b.0;
     })
+
+-- a is the store as the paths were read and b the store as the file was found
+module _ {A : Type 0} (S : StoreGhosts A) (a b : A) (looks : Looks S None a b) (path to : List ℕ) (both : two_paths (S.state a).origin.request.name_max path to ≡ Ok tt)
+    (n : ℕ) (file : OnTree (S.state a) (λ t. Ok n ≡ file_at t (names_in path))) where
+  pub link_unplaced : (stop : Stop) → IfAnswered {T = Vacancy} (Err stop) (λ r. OnTree (S.state b) (λ t. vacated r ≡ vacancy_at t (names_in to)))
+      → IfAnswered {T = Linking} (Err stop) (λ r. OnTree (S.state a) (λ t. link_in r ≡ link_of (S.state a).origin.request t path to))
+  link_unplaced (Refused e) is = λ z stands tree.
+      link_without_place (S.state a).origin.request z.tree path to both n (file z stands tree) e
+      (on_tree_before S a b looks (λ t. Err e ≡ vacancy_at t (names_in to)) is z stands tree)
+  link_unplaced (Fault fault) is = tt
