@@ -5,6 +5,7 @@
 mod descriptors;
 mod directory;
 mod handles;
+mod open;
 mod read;
 mod resize;
 mod session;
