@@ -10,8 +10,12 @@ pub mod RoomLaws
 pub mod PlaceLaws
 pub mod WriteLaws
 pub mod SizingLaws
+pub mod SizedLaws
 pub mod CutLaws
 pub mod ContentLaws
 pub mod ReadLaws
 pub mod SlotLaws
 pub mod ReadDirLaws
+pub mod OpeningLaws
+pub mod OpenedLaws
+pub mod EmptyLaws

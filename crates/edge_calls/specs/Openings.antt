@@ -1,5 +1,5 @@
 -- Opening a file: what its path leads to, and what is planned for that.
-use Rattle.std.specs.Prelude.{◌≡◌, ◌≤◌, ℕ, not, true, if◌then◌else◌, List, [], length, Result, Ok, Err}
+use Rattle.std.specs.Prelude.{◌≡◌, ◌≤◌, ℕ, not, true, false, is_some, if◌then◌else◌, List, [], length, Result, Ok, Err}
 use Rattle.edge_base.specs.commands.Descriptors.{Descriptors, first_empty, is_full}
 use Rattle.edge_base.specs.commands.Events as event
 use Rattle.edge_base.specs.commands.Refusals.{◌>>=◌, refuse_if}
@@ -72,6 +72,12 @@ OpensIn st table d name flags r = (z : State) → StoreStands st z → IsTree st
 abbrev pub IsShort : Request → List ℕ → Type 0
 IsShort g name = length name ≤ g.name_max
 
+-- Number n is one of a file that is there.
+pub record IsThere (st : StoreState) (n : ℕ) : Type 0 where
+  pub number : IsNumber st n
+  pub there : HasInode st n
+  pub file : OnTree st (λ t. (is_some (t n) ≡ true) × (is_directory t n ≡ false))
+
 -- A slot of directory d is empty, and the first one, and a file is to be made under a name in it.
 pub record IsNew (st : StoreState) (flags : OpenFlags) (d slot : ℕ) (name : List ℕ) : Type 0 where
   pub holder : IsHolder st d
@@ -81,5 +87,5 @@ pub record IsNew (st : StoreState) (flags : OpenFlags) (d slot : ℕ) (name : Li
   pub asked : flags.create ≡ true
 
 abbrev pub IsOpening : StoreState → OpenFlags → Opening → Type 0
-IsOpening st flags (There n) = IsNumber st n × HasInode st n
+IsOpening st flags (There n) = IsThere st n
 IsOpening st flags (New d slot name) = IsNew st flags d slot name.now

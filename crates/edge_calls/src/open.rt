@@ -1,5 +1,5 @@
-ghost use Rattle.std.specs.Prelude.{◌≡◌, ◌≤◌, ◌^◌, ℕ, List, false, true, Ok, IfOk, OnOk};
-ghost use Rattle.edge_base.specs.commands.Descriptors.{first_empty, is_full, most_open};
+ghost use Rattle.std.specs.Prelude.{◌≡◌, ◌≤◌, ◌^◌, ℕ, List, slice_get, false, true, Some, None, Ok, IfOk, OnOk};
+ghost use Rattle.edge_base.specs.commands.Descriptors.{first_empty, is_full};
 ghost use Rattle.edge_mask.specs.Mask.{mask_of};
 ghost use Rattle.edge_model.specs.declared.command.Answer.TheVariants.{Number};
 ghost use Rattle.edge_model.specs.Asked as command;
@@ -12,16 +12,20 @@ ghost use Rattle.edge_volume.specs.Parts.{KeepsBelow, Looks, IsOfNoDamage};
 ghost use Rattle.edge_volume.specs.Did.{Did};
 ghost use Rattle.edge_walk.specs.Reached.{IsReached, IsHolder};
 ghost use Rattle.edge_calls.specs.declared.open.Opening.TheVariants.{There};
-ghost use Rattle.edge_calls.specs.Openings.{IsOpening, IsShort, OpensAs, OpensIn, may_open, may_make, root_refusal};
+ghost use Rattle.edge_calls.specs.Openings.{IsOpening, IsShort, IsThere, OpensAs, OpensIn, may_open, may_make, root_refusal};
 ghost use Rattle.edge_calls.specs.State.{volume_of};
 
 use crate::volume::Volume;
 use edge_base::{NodeType, Refusal};
 use edge_dir::Place;
+use edge_file::set_size;
 use edge_handles::{Handles, Slot};
+use edge_mask::Events;
 use edge_model::{Answer, OpenFlags};
+use edge_room::has_room;
+use edge_space::Change;
 use edge_store::Store;
-use edge_volume::Stop;
+use edge_volume::{Stop, take_point};
 use edge_walk::{Spot, named_head, place_at, spot_at};
 
 /// What is opened: a file that is there, or one that is made, with its name in an empty slot of
@@ -153,6 +157,7 @@ fn opening_at<'a, S: Store>(
 fn enter_file(handles: &mut Handles, n: u32, flags: &OpenFlags) -> Answer
     requires room { is_full handles.old ≡ false }
     ensures answer { result ≡ Number (first_empty handles.old) }
+    ensures free { slice_get handles.old (first_empty handles.old) ≡ Some None }
     ensures entered { handles.new ≡ entered handles.old (file_descriptor flags.now n) }
 {
     let entered = handles.enter(Slot {
@@ -184,6 +189,28 @@ impl<S: Store> Volume<S> {
         Ok(enter_file(&mut self.handles, n, flags))
     }
 
+    /// Opens a file that is there, and makes it empty.
+    fn empty(&mut self, n: u32, flags: &OpenFlags) -> Result<Answer, Stop>
+        requires live { IsLive (S.state self.old.store) }
+        requires points { (S.state self.old.store).points ≤ 2 ^ 62 }
+        requires there { IsThere (S.state self.old.store) n }
+        requires emptied { flags.now.truncate ≡ true }
+        requires room { is_full self.old.handles ≡ false }
+        ensures did { (path out : List ℕ)
+            → OpensAs (S.state self.old.store) self.old.handles path flags.now (Ok (There n))
+            → Did (command.open_file path flags.now) result
+            (volume_of S.Store self.old) (volume_of S.Store self.new) out }
+    {
+        let change = Change::Size { n, size: 0 };
+        let full = self.mask.has(Events::FULL);
+        if !has_room(&mut self.store, full, &change, 0)? {
+            return Err(Stop::Refused(Refusal::NoSpace));
+        }
+        set_size(&mut self.store, n, 0)?;
+        take_point(&mut self.store, self.mask.has(Events::TRUNCATE))?;
+        Ok(enter_file(&mut self.handles, n, flags))
+    }
+
     /// Opens a file. Its path leads to a file that is there, which is made empty where this is
     /// asked for, or to a name that is free, under which one is made.
     pub(crate) fn open_file(&mut self, path: &[u8], flags: OpenFlags) -> Result<Answer, Stop>
@@ -195,7 +222,7 @@ impl<S: Store> Volume<S> {
             → KeepsBelow S.Store (fault_of result) self.old.store self.new.store }
     {
         match opening_at(&mut self.store, &self.handles, path, &flags)? {
-            Opening::There { n } if flags.truncate => self.keep(n, &flags),
+            Opening::There { n } if flags.truncate => self.empty(n, &flags),
             Opening::There { n } => self.keep(n, &flags),
             Opening::New { .. } => Err(Stop::Refused(Refusal::NoEntry)),
         }
