@@ -1,5 +1,5 @@
 -- What is planned for a path that is opened, by what it leads to.
-use Rattle.std.proofs.Common.{◌≡◌, ◌∙◌, ℕ, not, Bool, true, false, cond, is_some, List, [], refl, sym, ap, subst, Option, Some, None}
+use Rattle.std.proofs.Common.{◌≡◌, ◌∙◌, ℕ, ◌||◌, not, Bool, true, false, cond, is_some, List, [], refl, sym, ap, subst, Option, Some, None}
 use Rattle.std.specs.Borrow.{Bor}
 use Rattle.std.specs.Prelude.{Result, Ok, Err}
 use Rattle.edge_base.specs.commands.Descriptors.{Descriptors, first_empty, is_full}
@@ -16,6 +16,7 @@ use Rattle.edge_dir.specs.Bounds.{IsPlaceWithin}
 use Rattle.edge_dir.specs.declared.look.Found as look
 use Rattle.edge_dir.specs.declared.look.Place.TheVariants.{Taken, Free}
 use Rattle.edge_model.specs.declared.command.OpenFlags.{OpenFlags}
+use Rattle.edge_model.specs.Asking.{only_reads}
 use Rattle.edge_model.specs.Named.{NewName, new_name}
 use Rattle.edge_model.specs.Open.{are_bad_flags, open_plan, open_there, open_absent, open_spot, plan_open}
 use Rattle.edge_model.specs.Rules.{IsTree}
@@ -33,7 +34,7 @@ use Rattle.edge_volume.proofs.LookLaws.{looks_stands}
 use Rattle.edge_walk.specs.Reached.{IsReached, IsHolder}
 use Rattle.edge_walk.specs.Spots.{IsPlaceFor, spotted}
 use Rattle.edge_walk.specs.declared.spot.Spot as walk
-use Rattle.edge_walk.proofs.StillLaws.{on_tree_before, on_tree_after, reached_after, holder_after}
+use Rattle.edge_walk.proofs.StillLaws.{on_tree_before, on_tree_after, reached_after, holder_after, stood_before}
 use Rattle.edge_calls.specs.declared.open.Opening.{Opening}
 use Rattle.edge_calls.specs.declared.open.Opening.TheVariants.{There, New}
 use Rattle.edge_calls.specs.Openings.{IsNew, IsOpening, IsShort, IsThere, OpensAs, OpensIn, made_plan, may_make, may_open, planned_for, root_refusal}
@@ -160,6 +161,26 @@ module _ {A : Type 0} (S : StoreGhosts A) (a b : A) (looks : Looks S None a b) (
   opens_within (Ok x) named = opens_named (Ok x) named
   opens_within (Err (Refused e)) named = opens_named (Err e) named
   opens_within (Err (Fault fault)) named = tt
+
+-- what is planned stays planned over some reading
+pub opens_after : {A : Type 0} (S : StoreGhosts A) (a b : A) → Looks S None a b → (table : Descriptors) (path : List ℕ) (flags : OpenFlags) (r : Result Opening Refusal)
+    → OpensAs (S.state a) table path flags r → OpensAs (S.state b) table path flags r
+opens_after S a b looks table path flags r opens z stands tree are =
+    subst (λ (o : Origin). plan_open o.request z path flags ≡ planned_for o.request z flags r) (sym looks.ends.origin)
+    (opens z (stood_before S a b looks z stands) (subst (λ (o : Origin). IsTree o.request z.tree) looks.ends.origin tree) are)
+
+-- ---- an open that only reads
+
+only_by : (w c x t a : Bool) → not (w || c || x || t || a) ≡ true → (t ≡ false) × (c ≡ false)
+only_by true c x t a e = absurd (cc)
+only_by false true x t a e = absurd (cc)
+only_by false false true t a e = absurd (cc)
+only_by false false false true a e = absurd (cc)
+only_by false false false false a e = (refl, refl)
+
+-- neither makes a file empty nor makes one
+pub only_reads_so : (flags : OpenFlags) → only_reads flags ≡ true → (flags.truncate ≡ false) × (flags.create ≡ false)
+only_reads_so flags e = only_by flags.write flags.create flags.exclusive flags.truncate flags.append e
 
 -- ---- what is known of what is opened
 

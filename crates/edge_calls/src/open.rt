@@ -221,9 +221,15 @@ impl<S: Store> Volume<S> {
         ensures below { is_quiet (mask_of self.old.mask) (command.open_file path.now flags) ≡ true
             → KeepsBelow S.Store (fault_of result) self.old.store self.new.store }
     {
-        match opening_at(&mut self.store, &self.handles, path, &flags)? {
-            Opening::There { n } if flags.truncate => self.empty(n, &flags),
-            Opening::There { n } => self.keep(n, &flags),
+        let opening = opening_at(&mut self.store, &self.handles, path, &flags)?;
+        match opening {
+            Opening::There { n } => {
+                if flags.truncate {
+                    self.empty(n, &flags)
+                } else {
+                    self.keep(n, &flags)
+                }
+            }
             Opening::New { .. } => Err(Stop::Refused(Refusal::NoEntry)),
         }
     }
