@@ -3,3 +3,4 @@ pub mod Writes
 pub mod Sizes
 pub mod Entries
 pub mod Openings
+pub mod Makes

@@ -5,11 +5,13 @@
 mod descriptors;
 mod directory;
 mod handles;
+mod make;
 mod open;
 mod read;
 mod resize;
 mod session;
 mod status;
+mod vacant;
 mod volume;
 mod write;
 
