@@ -1,6 +1,5 @@
 -- What is planned for a path that is opened, by what it leads to.
 use Rattle.std.proofs.Common.{◌≡◌, ◌∙◌, ℕ, ◌||◌, not, Bool, true, false, cond, is_some, List, [], refl, sym, ap, subst, Option, Some, None}
-use Rattle.std.specs.Borrow.{Bor}
 use Rattle.std.specs.Prelude.{Result, Ok, Err}
 use Rattle.edge_base.specs.commands.Descriptors.{Descriptors, first_empty, is_full}
 use Rattle.edge_base.specs.commands.Refusals.{◌>>=◌, refuse_if}
@@ -12,7 +11,6 @@ use Rattle.edge_base.specs.tree.Nodes.{file}
 use Rattle.edge_store.specs.State.{StoreState, HasInode}
 use Rattle.edge_store.specs.View.{is_number}
 use Rattle.edge_store.specs.declared.store.Store.{Ghosts as StoreGhosts}
-use Rattle.edge_dir.specs.Bounds.{IsPlaceWithin}
 use Rattle.edge_dir.specs.declared.look.Found as look
 use Rattle.edge_dir.specs.declared.look.Place.TheVariants.{Taken, Free}
 use Rattle.edge_model.specs.declared.command.OpenFlags.{OpenFlags}
@@ -37,6 +35,7 @@ use Rattle.edge_walk.specs.declared.spot.Spot as walk
 use Rattle.edge_walk.proofs.StillLaws.{on_tree_before, on_tree_after, reached_after, holder_after, stood_before}
 use Rattle.edge_calls.specs.declared.open.Opening.{Opening}
 use Rattle.edge_calls.specs.declared.open.Opening.TheVariants.{There, New}
+use Rattle.edge_calls.specs.declared.vacant.Vacancy.{Vacancy}
 use Rattle.edge_calls.specs.Openings.{IsNew, IsOpening, IsShort, IsThere, OpensAs, OpensIn, made_plan, may_make, may_open, planned_for, root_refusal}
 
 -- ---- plans
@@ -116,9 +115,9 @@ module _ (st : StoreState) (table : Descriptors) (d slot : ℕ) (name : List ℕ
   pub absent_refused : (e : Refusal) → Err e ≡ may_make table flags → OpensIn st table d name flags (Err e)
   absent_refused e may = in_absent (Err e) may
 
-pub absent_opened : (st : StoreState) (table : Descriptors) (d slot : ℕ) (name : Bor (List ℕ)) (flags : OpenFlags) → OnTree st (λ t. IsPlaceFor t d name.now (Free slot))
-    → Ok tt ≡ may_make table flags → OpensIn st table d name.now flags (Ok (New d slot name))
-absent_opened st table d slot name flags is may = in_absent st table d slot name.now flags is (Ok tt) may
+pub absent_opened : (st : StoreState) (table : Descriptors) (at : Vacancy) (flags : OpenFlags) → OnTree st (λ t. IsPlaceFor t at.d at.name.now (Free at.slot))
+    → Ok tt ≡ may_make table flags → OpensIn st table at.d at.name.now flags (Ok (New at))
+absent_opened st table at flags is may = in_absent st table at.d at.slot at.name.now flags is (Ok tt) may
 
 -- ---- a path
 
@@ -204,13 +203,12 @@ module _ {A : Type 0} (S : StoreGhosts A) (b c : A) (looks : Looks S None b c) (
             (r.there z stands tree, on_tree_after S b c looks (λ t. is_directory t n ≡ false) (λ z stands tree. no_directory z.tree (may z stands tree)) z stands tree);
       }
 
-module _ {A : Type 0} (S : StoreGhosts A) (a b : A) (looks : Looks S None a b) (flags : OpenFlags) (d slot : ℕ) (name : List ℕ) where
-  pub is_new : IsHolder (S.state a) d → IsShort (S.state a).origin.request name → IsPlaceWithin (S.state a).origin.request (Free slot) → OnTree (S.state a) (λ t. IsPlaceFor t d name (Free slot))
-      → flags.create ≡ true → IsNew (S.state b) flags d slot name
-  is_new holder short low is asked = record {
-    holder = holder_after S a b looks d holder;
-    within = subst (λ (o : Origin). IsPlaceWithin o.request (Free slot)) (sym looks.ends.origin) low;
-    first = on_tree_after S a b looks (λ t. slot ≡ first_empty (slots_at t d)) (λ z stands tree. (is z stands tree).1);
-    short = subst (λ (o : Origin). IsShort o.request name) (sym looks.ends.origin) short;
-    asked = asked;
-  }
+pub is_new : {A : Type 0} (S : StoreGhosts A) (a b : A) → Looks S None a b → (flags : OpenFlags) (at : Vacancy) → IsHolder (S.state a) at.d
+    → IsShort (S.state a).origin.request at.name.now → OnTree (S.state a) (λ t. IsPlaceFor t at.d at.name.now (Free at.slot)) → flags.create ≡ true → IsNew (S.state b) flags at
+is_new S a b looks flags at holder short is asked = record {
+  holder = holder_after S a b looks at.d holder;
+  free = on_tree_after S a b looks (λ t. find_name t at.d at.name.now ≡ None) (λ z stands tree. (is z stands tree).0);
+  first = on_tree_after S a b looks (λ t. at.slot ≡ first_empty (slots_at t at.d)) (λ z stands tree. (is z stands tree).1);
+  short = subst (λ (o : Origin). IsShort o.request at.name.now) (sym looks.ends.origin) short;
+  asked = asked;
+}

@@ -1,5 +1,5 @@
 -- Opening a file: what its path leads to, and what is planned for that.
-use Rattle.std.specs.Prelude.{◌≡◌, ◌≤◌, ℕ, not, true, false, is_some, if◌then◌else◌, List, [], length, Result, Ok, Err}
+use Rattle.std.specs.Prelude.{◌≡◌, ◌≤◌, ℕ, not, true, false, is_some, if◌then◌else◌, List, [], length, None, Result, Ok, Err}
 use Rattle.edge_base.specs.commands.Descriptors.{Descriptors, first_empty, is_full}
 use Rattle.edge_base.specs.commands.Events as event
 use Rattle.edge_base.specs.commands.Refusals.{◌>>=◌, refuse_if}
@@ -8,7 +8,6 @@ use Rattle.edge_base.specs.declared.refusal.Refusal.{Refusal}
 use Rattle.edge_base.specs.declared.refusal.Refusal.TheVariants as refusal
 use Rattle.edge_base.specs.tree.Nodes.{file}
 use Rattle.edge_store.specs.State.{StoreState, IsNumber, HasInode}
-use Rattle.edge_dir.specs.Bounds.{max_slots_of}
 use Rattle.edge_model.specs.declared.command.OpenFlags.{OpenFlags}
 use Rattle.edge_model.specs.Asked.{number}
 use Rattle.edge_model.specs.Named.{NewName, new_name}
@@ -16,12 +15,13 @@ use Rattle.edge_model.specs.Open.{entered, file_descriptor, open_plan, open_spot
 use Rattle.edge_model.specs.Rules.{IsTree}
 use Rattle.edge_model.specs.State.{State, Plan, changes}
 use Rattle.edge_model.specs.Tree.{Tree, is_directory, slots_at}
-use Rattle.edge_model.specs.Walk.{within, at_spot}
+use Rattle.edge_model.specs.Walk.{within, at_spot, find_name}
 use Rattle.edge_volume.specs.Nodes.{OnTree}
 use Rattle.edge_volume.specs.Volume.{StoreStands}
 use Rattle.edge_walk.specs.Reached.{IsHolder}
 use Rattle.edge_calls.specs.declared.open.Opening.{Opening}
 use Rattle.edge_calls.specs.declared.open.Opening.TheVariants.{There, New}
+use Rattle.edge_calls.specs.declared.vacant.Vacancy.{Vacancy}
 
 -- ---- what is refused
 
@@ -52,8 +52,8 @@ made_plan s flags new =
 -- for what is opened, or why nothing is
 abbrev pub planned_for : Request → State → OpenFlags → Result Opening Refusal → Result Plan Refusal
 planned_for g s flags (Ok (There n)) = Ok (open_plan flags.truncate g s flags n)
-planned_for g s flags (Ok (New d slot name)) = do
-  new ← new_name g s.tree (within d name.now) (file [] [])
+planned_for g s flags (Ok (New at)) = do
+  new ← new_name g s.tree (within at.d at.name.now) (file [] [])
   Ok (made_plan s flags new)
 planned_for g s flags (Err e) = Err e
 
@@ -78,14 +78,14 @@ pub record IsThere (st : StoreState) (n : ℕ) : Type 0 where
   pub there : HasInode st n
   pub file : OnTree st (λ t. (is_some (t n) ≡ true) × (is_directory t n ≡ false))
 
--- A slot of directory d is empty, and the first one, and a file is to be made under a name in it.
-pub record IsNew (st : StoreState) (flags : OpenFlags) (d slot : ℕ) (name : List ℕ) : Type 0 where
-  pub holder : IsHolder st d
-  pub within : slot ≤ max_slots_of st.origin.request
-  pub first : OnTree st (λ t. slot ≡ first_empty (slots_at t d))
-  pub short : IsShort st.origin.request name
+-- A name is free, with the first empty slot of its directory, and a file is to be made under it.
+pub record IsNew (st : StoreState) (flags : OpenFlags) (at : Vacancy) : Type 0 where
+  pub holder : IsHolder st at.d
+  pub free : OnTree st (λ t. find_name t at.d at.name.now ≡ None)
+  pub first : OnTree st (λ t. at.slot ≡ first_empty (slots_at t at.d))
+  pub short : IsShort st.origin.request at.name.now
   pub asked : flags.create ≡ true
 
 abbrev pub IsOpening : StoreState → OpenFlags → Opening → Type 0
 IsOpening st flags (There n) = IsThere st n
-IsOpening st flags (New d slot name) = IsNew st flags d slot name.now
+IsOpening st flags (New at) = IsNew st flags at

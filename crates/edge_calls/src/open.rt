@@ -11,10 +11,11 @@ ghost use Rattle.edge_volume.specs.Stopped.{fault_of, IfAnswered};
 ghost use Rattle.edge_volume.specs.Parts.{KeepsBelow, Looks, IsOfNoDamage};
 ghost use Rattle.edge_volume.specs.Did.{Did};
 ghost use Rattle.edge_walk.specs.Reached.{IsReached, IsHolder};
-ghost use Rattle.edge_calls.specs.declared.open.Opening.TheVariants.{There};
-ghost use Rattle.edge_calls.specs.Openings.{IsOpening, IsShort, IsThere, OpensAs, OpensIn, may_open, may_make, root_refusal};
+ghost use Rattle.edge_calls.specs.declared.open.Opening.TheVariants.{There, New};
+ghost use Rattle.edge_calls.specs.Openings.{IsNew, IsOpening, IsShort, IsThere, OpensAs, OpensIn, may_open, may_make, root_refusal};
 ghost use Rattle.edge_calls.specs.State.{volume_of};
 
+use crate::vacant::{Vacancy, may_take};
 use crate::volume::Volume;
 use edge_base::{NodeType, Refusal};
 use edge_dir::Place;
@@ -22,18 +23,21 @@ use edge_file::set_size;
 use edge_handles::{Handles, Slot};
 use edge_mask::Events;
 use edge_model::{Answer, OpenFlags};
+use edge_names::make_node;
 use edge_room::has_room;
-use edge_space::Change;
+use edge_space::{Change, SlotAt};
 use edge_store::Store;
 use edge_volume::{Stop, take_point};
 use edge_walk::{Spot, named_head, place_at, spot_at};
 
-/// What is opened: a file that is there, or one that is made, with its name in an empty slot of
-/// directory `d`.
+/// The blocks that a new name must leave free.
+const RESERVE: u32 = 3;
+
+/// What is opened: a file that is there, or one that is made, under a name that is free.
 #[derive(Clone, Copy, Debug)]
 enum Opening<'a> {
     There { n: u32 },
-    New { d: u32, slot: u64, name: &'a [u8] },
+    New { at: Vacancy<'a> },
 }
 
 /// Whether no file is opened so: neither to read nor to write, `exclusive` without `create`, or
@@ -125,7 +129,9 @@ fn opening_in<'a, S: Store>(
         }
         Place::Free(slot) => {
             may_make(handles, flags)?;
-            Ok(Opening::New { d, slot, name })
+            Ok(Opening::New {
+                at: Vacancy { d, name, slot },
+            })
         }
     }
 }
@@ -211,6 +217,38 @@ impl<S: Store> Volume<S> {
         Ok(enter_file(&mut self.handles, n, flags))
     }
 
+    /// Opens a file that is made, under a name that is free.
+    fn create(&mut self, at: Vacancy<'_>, flags: &OpenFlags) -> Result<Answer, Stop>
+        requires live { IsLive (S.state self.old.store) }
+        requires points { (S.state self.old.store).points ≤ 2 ^ 62 }
+        requires new { IsNew (S.state self.old.store) flags.now at }
+        requires room { is_full self.old.handles ≡ false }
+        ensures did { (path out : List ℕ)
+            → OpensAs (S.state self.old.store) self.old.handles path flags.now (Ok (New at))
+            → Did (command.open_file path flags.now) result
+            (volume_of S.Store self.old) (volume_of S.Store self.new) out }
+    {
+        may_take(&self.store, at.slot)?;
+        let put = SlotAt {
+            dir: at.d,
+            slot: at.slot,
+        };
+        let change = Change::Slots {
+            put: Some(put),
+            clear: None,
+        };
+        let full = self.mask.has(Events::FULL);
+        if !has_room(&mut self.store, full, &change, RESERVE)? {
+            return Err(Stop::Refused(Refusal::NoSpace));
+        }
+        let kind = NodeType::File;
+        let Some(n) = make_node(&mut self.store, kind, at.d, at.slot, at.name)? else {
+            return Err(Stop::Refused(Refusal::NoInodes));
+        };
+        take_point(&mut self.store, self.mask.has(Events::CREATE))?;
+        Ok(enter_file(&mut self.handles, n, flags))
+    }
+
     /// Opens a file. Its path leads to a file that is there, which is made empty where this is
     /// asked for, or to a name that is free, under which one is made.
     pub(crate) fn open_file(&mut self, path: &[u8], flags: OpenFlags) -> Result<Answer, Stop>
@@ -230,7 +268,7 @@ impl<S: Store> Volume<S> {
                     self.keep(n, &flags)
                 }
             }
-            Opening::New { .. } => Err(Stop::Refused(Refusal::NoEntry)),
+            Opening::New { at } => self.create(at, &flags),
         }
     }
 }
