@@ -19,3 +19,7 @@ pub mod ReadDirLaws
 pub mod OpeningLaws
 pub mod OpenedLaws
 pub mod EmptyLaws
+pub mod VacancyLaws
+pub mod MakeLaws
+pub mod PutLaws
+pub mod MakeDirLaws
