@@ -23,3 +23,4 @@ pub mod VacancyLaws
 pub mod MakeLaws
 pub mod PutLaws
 pub mod MakeDirLaws
+pub mod CreateLaws

@@ -1,7 +1,7 @@
 -- What open does, at its ends that change no tree, and the descriptor that it enters.
 use Rattle.std.proofs.Common.{◌≡◌, ◌∙◌, ℕ, ◌<◌, Bool, true, false, List, is_some, unwrap_or, slice_set, refl, sym, ap, subst, Option, Some, None}
 use Rattle.std.specs.Prelude.{slice_get, Result, Ok, Err}
-use Rattle.std.proofs.lemmas.Bool.{leb-lt}
+use Rattle.std.proofs.lemmas.Bool.{leb-false}
 use Rattle.edge_base.specs.commands.Descriptors.{Descriptor, Descriptors, first_empty, is_full, most_open}
 use Rattle.edge_base.specs.declared.refusal.Refusal.{Refusal}
 use Rattle.edge_store.specs.declared.fault.StoreFault.{StoreFault}
@@ -36,7 +36,7 @@ module _ (path : List ℕ) (flags : OpenFlags) (n : ℕ) (old new : VolumeState)
   pub file_opens : KeepsOpen (command.open_file path flags) (Ok (a.Number (first_empty old.descriptors))) old new
   file_opens = record {
     after = (
-      leb-lt most_open (first_empty old.descriptors) is.room,
+      leb-false most_open (first_empty old.descriptors) is.room,
       ap (λ (o : Option (Option Descriptor)). is_some (unwrap_or o None)) is.free,
       set_opens old new (first_empty old.descriptors) (Some (file_descriptor flags n)) is.are
       (set_here old.descriptors (first_empty old.descriptors) None (Some (file_descriptor flags n)) is.free),

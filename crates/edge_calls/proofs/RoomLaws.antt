@@ -186,10 +186,10 @@ module _ (command : Asked) (old mid : VolumeState) (out : List ℕ) (geometry : 
   mid_most = takes_on 0 1 1 old.store b mid.store (omega arith) (takes_none 0 old.store b looked.point.points) most
 
   module _ (of_bytes : IsOfBytes command) (limits : IsInLimits command) (s : State) (stands : VolumeStands old s) where
-    abbrev planned_as : Plans old.store full change reserve s command
+    abbrev pub planned_as : Plans old.store full change reserve s command
     planned_as = plans of_bytes limits s stands
 
-    abbrev at_change : State
+    abbrev pub at_change : State
     at_change = (judged (request_of old) s planned_as.done.edit).state
 
     abbrev judged_so : IsJudged (request_of old) s command None old mid
@@ -198,7 +198,7 @@ module _ (command : Asked) (old mid : VolumeState) (out : List ℕ) (geometry : 
     fits_so : (judged (request_of old) s planned_as.done.edit).fits ≡ true
     fits_so = sym (fits_on old.store b mid.store full change reserve looked s command planned_as true fits)
 
-    carrying : IsCarrying mid.store s planned_as.edit at_change
+    pub carrying : IsCarrying mid.store s planned_as.edit at_change
     carrying = record {
       stands = judged_so.judge.to_state refl;
       session = subst (λ (o : Origin). IsSession o.request at_change) (sym origin) (judged_session (request_of old) s planned_as.done.edit stands.session);

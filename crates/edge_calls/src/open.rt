@@ -228,6 +228,7 @@ impl<S: Store> Volume<S> {
             → Did (command.open_file path flags.now) result
             (volume_of S.Store self.old) (volume_of S.Store self.new) out }
     {
+        let _within_limits = self.store.geometry().request();
         may_take(&self.store, at.slot)?;
         let put = SlotAt {
             dir: at.d,
