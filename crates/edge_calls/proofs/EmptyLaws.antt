@@ -2,6 +2,7 @@
 use Rattle.std.proofs.Common.{◌≡◌, ◌∙◌, ℕ, ◌<◌, ◌≤◌, ◌+◌, ◌-◌, ◌/◌, ◌%◌, ◌==◌, ◌&&◌, not, nat_le, nat_lt, Bool, true, false, cond, List, [], ◌∷◌, length, map, filter, replicate, refl, sym, ap, subst, arith, unwrap_or, Option, Some, None}
 use Rattle.std.specs.Prelude.{Ok, Err}
 use Rattle.std.specs.List.{range_with_len}
+use Rattle.std.proofs.lemmas.Bool.{le-leb}
 use Rattle.std.proofs.Math.Nat.{zero-mod, div-eq_of_lt}
 use Rattle.edge_base.specs.commands.Descriptors.{first_empty}
 use Rattle.edge_base.specs.commands.Events as event
@@ -53,7 +54,8 @@ use Rattle.edge_calls.proofs.OpenedLaws.{IsEntered, file_entered, file_mask, fil
 
 all_past : (xs : List ℕ) → filter (λ i. nat_le 0 i) xs ≡ xs
 all_past [] = refl
-all_past (x ∷ xs) = ap (λ (ys : List ℕ). x ∷ ys) (all_past xs)
+all_past (x ∷ xs) =
+    ap (λ (b : Bool). cond b (x ∷ filter (λ i. nat_le 0 i) xs) (filter (λ i. nat_le 0 i) xs)) (le-leb 0 x (omega arith)) ∙ ap (λ (ys : List ℕ). x ∷ ys) (all_past xs)
 
 module _ (g : Request) (t : Tree) (n : ℕ) (geometry : IsGeometry g) (there : t n ≡ Some (file_of t n)) where
   no_piece : pieces g.block_size 0 ≡ 0
@@ -78,16 +80,19 @@ module _ (g : Request) (t : Tree) (n : ℕ) (geometry : IsGeometry g) (there : t
   each_past = ap (λ (k : ℕ). filter (λ i. nat_le k i) (marked_from 0 (flags_of t n))) no_piece ∙ all_past (marked_from 0 (flags_of t n))
       ∙ sym (ap (λ (o : Option Node). indices_of g (unwrap_or o (file [] []))) there)
 
+  none_left : (cut g t n 0).reserve ≡ 0
+  none_left = ap (λ (b : Bool). cond b 0 3) (le-leb 0 (length (text_of t n)) (omega arith))
+
   pub emptied_is_cut : cut g t n 0 ≡ emptied g t n
   emptied_is_cut = λ i. record {
     tree = with_node t n (Some (file (no_bytes i) (no_flags i)));
     writes = map (data_at n) (none_in_two i);
     removes = map (data_at n) (each_past i);
-    reserve = 0;
+    reserve = none_left i;
   }
 
   pub emptied_named : (v : View) → StandsFor g v t → IsFile g (text_of t n) (flags_of t n) → NamesEdit g v t (Size n 0) 0 (emptied g t n)
-  emptied_named v stands rules = subst (λ (e : Edit). NamesEdit g v t (Size n 0) 0 e) emptied_is_cut (cut_named g v t n 0 geometry stands there rules 0 refl)
+  emptied_named v stands rules = subst (λ (e : Edit). NamesEdit g v t (Size n 0) 0 e) emptied_is_cut (cut_named g v t n 0 geometry stands there rules 0 none_left)
 
 -- ---- ends
 
