@@ -16,6 +16,8 @@ use Rattle.edge_store.specs.declared.fault.StoreFault.{StoreFault}
 use Rattle.edge_store.specs.Calls.{KeepsPoint}
 use Rattle.edge_store.specs.State.{StoreState, Told}
 use Rattle.edge_store.specs.View.{IsView}
+use Rattle.edge_file.specs.Writing.{RoomForBytes}
+use Rattle.edge_dir.specs.Written.{place_of_slot}
 use Rattle.edge_space.specs.declared.change.Change.{Change}
 use Rattle.edge_model.specs.declared.command.Answer.TheVariants as a
 use Rattle.edge_model.specs.declared.command.OpenFlags.{OpenFlags}
@@ -50,6 +52,17 @@ use Rattle.edge_calls.proofs.RoomLaws.{IsLooked, Judges, Fits, PlansAs, IsCarryi
 use Rattle.edge_calls.proofs.OpenedLaws.{IsEntered, file_entered, file_mask, file_opens}
 
 -- ---- a new node in the first empty slot
+
+module _ (g : Request) (t : Tree) (slot : ℕ) where
+  pub take_without_number : free_number g t ≡ None → Err refusal.NoInodes ≡ may_take g t slot
+  take_without_number none = rw none refl
+
+  module _ (n : ℕ) (free : free_number g t ≡ Some n) where
+    pub take_behind : is_behind g slot ≡ true → Err refusal.TooBig ≡ may_take g t slot
+    take_behind behind = rw (free, behind) refl
+
+    pub take_is : is_behind g slot ≡ false → Ok tt ≡ may_take g t slot
+    take_is inside = rw (free, inside) refl
 
 module _ (g : Request) (t : Tree) (d : ℕ) (name : List ℕ) (node : Node) where
   abbrev allowed : Option ℕ → Bool → Result (Unit {0}) Refusal
@@ -161,7 +174,8 @@ module _ (path : List ℕ) (flags : OpenFlags) (at : Vacancy) (old : VolumeState
         tree_then = k.tree;
       }
 
-      room_so : HasRoomWhere mid.store change 3 true → Told mid.store → _
+      room_so : HasRoomWhere mid.store change 3 true → Told mid.store
+          → RoomForBytes mid.store at.d (place_of_slot mid.store.origin.request at.slot) (4 + mid.store.origin.request.name_max)
       room_so room is_told =
           put_room mid.store at.d at.slot (subst (λ (o : Origin). IsWithinLimits o.request) (sym ends.origin) limits)
           (subst (λ (o : Origin). at.slot / slots_in_block o.request < max_blocks_of o.request) (sym ends.origin) inside) is_told room

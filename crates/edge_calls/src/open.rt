@@ -224,7 +224,7 @@ impl<S: Store> Volume<S> {
         requires new { IsNew (S.state self.old.store) flags.now at }
         requires room { is_full self.old.handles ≡ false }
         ensures did { (path out : List ℕ)
-            → OpensAs (S.state self.old.store) self.old.handles path flags.now (Ok (New at))
+            → OpensAs (S.state self.old.store) self.old.handles path flags.now (Ok (New at.entry))
             → Did (command.open_file path flags.now) result
             (volume_of S.Store self.old) (volume_of S.Store self.new) out }
     {

@@ -47,20 +47,20 @@ returns-then-not-branch g c = record {
       last refl refl room.ends room.most room.judged (λ z command p. sym c.if-not-branch.true ∙ room.fits z command p);
 }
 
-pub returns-in_err-make_node : goal.returns-in_err-make_node
-returns-in_err-make_node g c = record {
+pub returns-in_err-n : goal.returns-in_err-n
+returns-in_err-n g c = record {
   did = λ path out opens.
       let old = volume_of g.S.Store c.args.self.now in
       let mid = volume_of g.S.Store (record c.args.self.now { store = c.has_room.new.s }) in
       let room = c.in_ok-has_room.ensures in
       let last = volume_of g.S.Store (record c.args.self.now { store = c.make_node.new.s }) in
-      let made = c.in_err-make_node.ensures in
-      let e = err_from_is_err_and c.from_residual-in_err-make_node.result c.from_residual-in_err-make_node.ensures.1 in
+      let made = c.in_err-n.ensures in
+      let e = err_from_is_err_and c.from_residual-in_err-n.result c.from_residual-in_err-n.ensures.1 in
       subst (λ r. Did (command.open_file path c.args.flags.now) r old last out) (sym (e.1 ∙ ap Err e.2))
       (create_faulted path c.args.flags.now c.args.at old out c.requires.live c.requires.new opens
       (g.met.S.Store.is_geometry c.args.self.now.store) (subst IsWithinLimits c.geometry.ensures c.request-within_limits.ensures.limits)
       c.in_ok-may_take.ensures.may c.in_ok-may_take.ensures.block c.has-full.result (c.has-full.ensures.one event.full refl)
-      mid room.ends room.most room.judged (λ z command p. sym c.if-not-branch.false ∙ room.fits z command p) refl c.in_err-make_node.field-0.0 last refl refl made.ends made.point made.undamaged
+      mid room.ends room.most room.judged (λ z command p. sym c.if-not-branch.false ∙ room.fits z command p) refl c.in_err-n.field-0.0 last refl refl made.ends made.point made.undamaged
       (λ fit is_told. room.room c.if-not-branch.false is_told));
 }
 
@@ -71,7 +71,7 @@ returns-in_default g c = record {
       let mid = volume_of g.S.Store (record c.args.self.now { store = c.has_room.new.s }) in
       let room = c.in_ok-has_room.ensures in
       let last = volume_of g.S.Store (record c.args.self.now { store = c.make_node.new.s }) in
-      let made = c.in_ok-make_node.ensures in
+      let made = c.in_ok-n.ensures in
       create_none path c.args.flags.now c.args.at old out c.requires.live c.requires.new opens
       (g.met.S.Store.is_geometry c.args.self.now.store) (subst IsWithinLimits c.geometry.ensures c.request-within_limits.ensures.limits)
       c.in_ok-may_take.ensures.may c.in_ok-may_take.ensures.block c.has-full.result (c.has-full.ensures.one event.full refl)
@@ -86,7 +86,7 @@ returns-in_err-take_point g c = record {
       let mid = volume_of g.S.Store (record c.args.self.now { store = c.has_room.new.s }) in
       let room = c.in_ok-has_room.ensures in
       let made = g.S.Store.state c.make_node.new.s in
-      let makes = c.in_ok-make_node.ensures in
+      let makes = c.in_ok-n.ensures in
       let last = volume_of g.S.Store (record c.args.self.now { store = c.take_point.new.s }) in
       let point = c.in_err-take_point.ensures in
       let e = err_from_is_err_and c.from_residual-in_err-take_point.result c.from_residual-in_err-take_point.ensures.1 in
@@ -107,7 +107,7 @@ returns g c = record {
       let mid = volume_of g.S.Store (record c.args.self.now { store = c.has_room.new.s }) in
       let room = c.in_ok-has_room.ensures in
       let made = g.S.Store.state c.make_node.new.s in
-      let makes = c.in_ok-make_node.ensures in
+      let makes = c.in_ok-n.ensures in
       let last = volume_of g.S.Store (record c.args.self.now { store = c.take_point.new.s; handles = c.enter_file.new.handles }) in
       let point = c.in_ok-take_point.ensures in
       let entered = c.enter_file.ensures in
