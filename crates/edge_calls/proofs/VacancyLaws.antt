@@ -6,7 +6,11 @@ use Rattle.edge_base.specs.commands.Refusals.{◌>>=◌, refuse_if, or_refuse}
 use Rattle.edge_base.specs.declared.geometry.Request.{Request}
 use Rattle.edge_base.specs.declared.refusal.Refusal.{Refusal}
 use Rattle.edge_base.specs.declared.refusal.Refusal.TheVariants as refusal
+use Rattle.edge_base.specs.outside.Below.{Origin}
+use Rattle.edge_store.specs.State.{Told}
+use Rattle.edge_store.specs.Told.{AreFreeInodes}
 use Rattle.edge_store.specs.View.{View, free_inodes}
+use Rattle.edge_store.specs.declared.store.Store.{Ghosts as StoreGhosts}
 use Rattle.edge_model.specs.Asked.{Reply, room}
 use Rattle.edge_model.specs.State.{State}
 use Rattle.edge_model.specs.Step.{room_of}
@@ -14,6 +18,8 @@ use Rattle.edge_model.specs.Tree.{Tree, free_number, free_numbers, numbers_of, s
 use Rattle.edge_model.specs.Walk.{Spot, Found, top, within, find_name, spot_of}
 use Rattle.edge_stands.specs.Session.{StandForState}
 use Rattle.edge_stands.proofs.SpaceLaws.{space_is}
+use Rattle.edge_volume.specs.Parts.{Looks}
+use Rattle.edge_volume.specs.Volume.{StoreStands}
 use Rattle.edge_calls.specs.Makes.{NewName, is_behind, node_place, node_place_at, vacancy_of}
 
 -- ---- a spot that has nothing
@@ -53,15 +59,28 @@ unfolding room_of
 numbers_are g c w s stands = ap free_in (space_is g c w s stands)
 
 module _ (g : Request) (c w : View) (s : State) (stands : StandForState g c w s) where
-  pub none_is_free : free_inodes g w ≡ 0 → free_number g s.tree ≡ None
+  none_is_free : free_inodes g w ≡ 0 → free_number g s.tree ≡ None
   none_is_free none = none_counted (λ n. not (is_some (s.tree n))) (numbers_of g) (numbers_are g c w s stands ∙ none)
 
-  pub some_is_free : (free_inodes g w ≡ 0 → ⊥) → (n : ℕ) × (free_number g s.tree ≡ Some n)
+  some_is_free : (free_inodes g w ≡ 0 → ⊥) → (n : ℕ) × (free_number g s.tree ≡ Some n)
   some_is_free some = by (free_number g s.tree) refl
     where
       by : (o : Option ℕ) → free_number g s.tree ≡ o → (n : ℕ) × (free_number g s.tree ≡ Some n)
       by (Some n) is = (n, is)
       by None is = absurd (some (sym (numbers_are g c w s stands) ∙ none_found (λ n. not (is_some (s.tree n))) (numbers_of g) is))
+
+-- so many numbers are told to be free after some reading
+module _ {A : Type 0} (S : StoreGhosts A) (a b : A) (looks : Looks S None a b) (n : ℕ) (told : AreFreeInodes (S.state b) n) (z : State) (stands : StoreStands (S.state a) z) where
+  count_is : n ≡ free_inodes (S.state a).origin.request (S.state a).working
+  count_is =
+      told (ap (λ (o : Origin). o.tells) looks.ends.origin ∙ stands.told) looks.ends.live
+      ∙ (λ i. free_inodes (looks.ends.origin i).request ((looks.reads refl).working i))
+
+  pub told_none : n ≡ 0 → free_number (S.state a).origin.request z.tree ≡ None
+  told_none none = none_is_free (S.state a).origin.request (S.state a).committed (S.state a).working z stands.views (sym count_is ∙ none)
+
+  pub told_some : (n ≡ 0 → ⊥) → (k : ℕ) × (free_number (S.state a).origin.request z.tree ≡ Some k)
+  told_some some = some_is_free (S.state a).origin.request (S.state a).committed (S.state a).working z stands.views (λ none. some (count_is ∙ none))
 
 -- ---- the place of a new node's name
 
