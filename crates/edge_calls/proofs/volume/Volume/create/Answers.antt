@@ -18,7 +18,7 @@ returns-in_err-may_take g c = record {
       let old = volume_of g.S.Store c.args.self.now in
       let e = err_from_is_err_and c.from_residual.result c.from_residual.ensures.1 in
       subst (λ r. Did (command.open_file path c.args.flags.now) r old old out) (sym (e.1 ∙ ap Err e.2))
-      (create_refused path c.args.flags.now c.args.at old out c.requires.live c.requires.new opens c.in_err-may_take.field-0 c.in_err-may_take.ensures.may);
+      (create_refused path c.args.flags.now c.args.at old out c.requires.live c.requires.new opens c.in_err-may_take.field-0.0 c.in_err-may_take.ensures.may);
 }
 
 pub returns-in_err-has_room : goal.returns-in_err-has_room
