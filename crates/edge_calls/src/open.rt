@@ -153,7 +153,8 @@ fn opening_at<'a, S: Store>(
     if are_bad_flags(flags) {
         return Err(Stop::Refused(Refusal::Invalid));
     }
-    match spot_at(s, path)? {
+    let spot = spot_at(s, path)?;
+    match spot {
         Spot::Top => Err(Stop::Refused(root_refusal(flags))),
         Spot::Within { d, name } => opening_in(s, handles, d, name, flags),
     }
