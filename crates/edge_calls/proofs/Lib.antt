@@ -24,3 +24,5 @@ pub mod MakeLaws
 pub mod PutLaws
 pub mod MakeDirLaws
 pub mod CreateLaws
+pub mod LinkPlanLaws
+pub mod LinkLaws

@@ -15,6 +15,8 @@ use Rattle.edge_store.specs.declared.fault.StoreFault.{StoreFault}
 use Rattle.edge_store.specs.Calls.{KeepsPoint, KeepsWorking}
 use Rattle.edge_store.specs.State.{StoreState, Told}
 use Rattle.edge_store.specs.View.{IsView}
+use Rattle.edge_file.specs.Writing.{RoomForBytes}
+use Rattle.edge_dir.specs.Written.{place_of_slot}
 use Rattle.edge_space.specs.declared.change.Change.{Change}
 use Rattle.edge_model.specs.declared.command.Answer.TheVariants as a
 use Rattle.edge_model.specs.Asked as command
@@ -124,7 +126,8 @@ module _ (path : List ℕ) (old : VolumeState) (out : List ℕ) where
             tree_then = k.tree;
           }
 
-      room_so : HasRoomWhere mid.store change 3 true → Told mid.store → _
+      room_so : HasRoomWhere mid.store change 3 true → Told mid.store
+          → RoomForBytes mid.store d (place_of_slot mid.store.origin.request slot) (4 + mid.store.origin.request.name_max)
       room_so room is_told =
           put_room mid.store d slot (subst (λ (o : Origin). IsWithinLimits o.request) (sym origin) limits)
           (subst (λ (o : Origin). slot / slots_in_block o.request < max_blocks_of o.request) (sym origin) inside) is_told room

@@ -1,5 +1,5 @@
 -- Where a new name goes, by what was found, in the words of the tree.
-use Rattle.std.proofs.Common.{◌≡◌, ◌∙◌, ℕ, not, Bool, true, false, cond, List, [], ◌∷◌, count_by, find, is_some, refl, sym, ap, Option, Some, None}
+use Rattle.std.proofs.Common.{◌≡◌, ◌∙◌, ℕ, ◌+◌, not, Bool, true, false, cond, List, [], ◌∷◌, count_by, find, is_some, refl, sym, ap, Option, Some, None}
 use Rattle.std.specs.Prelude.{Result, Ok, Err}
 use Rattle.edge_base.specs.commands.Descriptors.{first_empty}
 use Rattle.edge_base.specs.commands.Refusals.{◌>>=◌, refuse_if, or_refuse}
@@ -50,12 +50,12 @@ none_found test (x ∷ xs) none = by (test x) refl none
     by true is none = absurd (cc)
     by false is none = none_found test xs none
 
-free_in : Reply → ℕ
+abbrev free_in : Reply → ℕ
 free_in (room r) = r.free_inodes
 free_in other = 0
 
 numbers_are : (g : Request) (c w : View) (s : State) → StandForState g c w s → free_numbers g s.tree ≡ free_inodes g w
-unfolding room_of
+unfolding room_of free_inodes
 numbers_are g c w s stands = ap free_in (space_is g c w s stands)
 
 module _ (g : Request) (c w : View) (s : State) (stands : StandForState g c w s) where

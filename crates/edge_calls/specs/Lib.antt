@@ -4,3 +4,4 @@ pub mod Sizes
 pub mod Entries
 pub mod Openings
 pub mod Makes
+pub mod Links

@@ -5,6 +5,7 @@
 mod descriptors;
 mod directory;
 mod handles;
+mod link;
 mod make;
 mod open;
 mod read;

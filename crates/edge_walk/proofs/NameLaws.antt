@@ -61,5 +61,5 @@ pub two_are_short : (g : Request) (path to : List ℕ) → two_paths g.name_max 
 two_are_short g path to pass =
     let first = after_test (is_invalid path || is_invalid to) Invalid _ tt pass in
     let both = or_parts (is_too_long g.name_max path) (is_too_long g.name_max to)
-        (passes (is_too_long g.name_max path || is_too_long g.name_max to) NameTooLong tt first.1) in
+    (passes (is_too_long g.name_max path || is_too_long g.name_max to) NameTooLong tt first.1) in
     (short g path both.0, short g to both.1)

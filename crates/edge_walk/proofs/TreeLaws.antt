@@ -125,8 +125,9 @@ pub place_in_tree : (st : StoreState) (d : ℕ) (name : List ℕ) (place : Place
     → OnSlots st d (λ slots. IsPlaceIn slots name place) → OnTree st (λ t. IsPlaceFor t d name place)
 place_in_tree st d name (Taken found) is on z stands tree = found_in_tree st d name (Some found) is on z stands tree
 place_in_tree st d name (Free slot) is on z stands tree = (
-    found_in_tree st d name None is (λ told slots parent node. (on told slots parent node).0) z stands tree,
-    on_slots st d is (λ slots. slot ≡ first_empty slots) (λ told slots parent node. (on told slots parent node).1) z stands tree)
+  found_in_tree st d name None is (λ told slots parent node. (on told slots parent node).0) z stands tree,
+  on_slots st d is (λ slots. slot ≡ first_empty slots) (λ told slots parent node. (on told slots parent node).1) z stands tree,
+)
 
 -- ---- numbers that are reached
 
