@@ -231,5 +231,5 @@ module _ (path : List ℕ) (flags : OpenFlags) (at : Vacancy) (old : VolumeState
               ap (λ ds. Ok (command.number (first_empty ds))) stands.descriptors,
               mask ∙ stands.mask,
               subst (λ (x : ℕ). last.descriptors ≡ entered s.descriptors (file_descriptor flags x)) (number_so of_bytes in_limits s stands)
-              (file_entered path flags n old last is s stands),
+                  (file_entered path flags n old last is s stands),
             ))

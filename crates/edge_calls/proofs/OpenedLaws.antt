@@ -39,7 +39,7 @@ module _ (path : List ℕ) (flags : OpenFlags) (n : ℕ) (old new : VolumeState)
       leb-false most_open (first_empty old.descriptors) is.room,
       ap (λ (o : Option (Option Descriptor)). is_some (unwrap_or o None)) is.free,
       set_opens old new (first_empty old.descriptors) (Some (file_descriptor flags n)) is.are
-      (set_here old.descriptors (first_empty old.descriptors) None (Some (file_descriptor flags n)) is.free),
+          (set_here old.descriptors (first_empty old.descriptors) None (Some (file_descriptor flags n)) is.free),
     );
     stays = λ x. absurd (cc);
   }

@@ -1,6 +1,7 @@
 -- Where a new name goes, by what was found, in the words of the tree.
-use Rattle.std.proofs.Common.{◌≡◌, ◌∙◌, ℕ, ◌+◌, not, Bool, true, false, cond, List, [], ◌∷◌, count_by, find, is_some, refl, sym, ap, Option, Some, None}
+use Rattle.std.proofs.Common.{◌≡◌, ◌∙◌, ℕ, ◌+◌, not, Bool, true, false, cond, List, [], ◌∷◌, count_by, find, is_some, refl, sym, ap, arith, Option, Some, None}
 use Rattle.std.specs.Prelude.{Result, Ok, Err}
+use Rattle.std.proofs.lemmas.List.Recursion.{is_count_by}
 use Rattle.edge_base.specs.commands.Descriptors.{first_empty}
 use Rattle.edge_base.specs.commands.Refusals.{◌>>=◌, refuse_if, or_refuse}
 use Rattle.edge_base.specs.declared.geometry.Request.{Request}
@@ -34,21 +35,34 @@ module _ (t : Tree) (d : ℕ) (name : List ℕ) where
 
 -- ---- numbers that have no node
 
-none_counted : (test : ℕ → Bool) (xs : List ℕ) → count_by test xs ≡ 0 → find test xs ≡ None
-none_counted test [] none = refl
-none_counted test (x ∷ xs) none = by (test x) refl none
+abbrev counted : (ℕ → Bool) → List ℕ → ℕ
+counted test [] = 0
+counted test (x ∷ xs) = cond (test x) (1 + counted test xs) (counted test xs)
+
+counted_is : (test : ℕ → Bool) (xs : List ℕ) → counted test xs ≡ count_by test xs
+counted_is test xs = is_count_by (counted test) test refl (λ x xs. refl) xs
+
+none_passes : (test : ℕ → Bool) (xs : List ℕ) → counted test xs ≡ 0 → find test xs ≡ None
+none_passes test [] none = refl
+none_passes test (x ∷ xs) none = by (test x) none (none_passes test xs)
   where
-    by : (b : Bool) → test x ≡ b → cond b (1 + count_by test xs) (count_by test xs) ≡ 0 → cond b (Some x) (find test xs) ≡ None
-    by true is none = absurd (cc)
-    by false is none = none_counted test xs none
+    by : (b : Bool) → cond b (1 + counted test xs) (counted test xs) ≡ 0 → (counted test xs ≡ 0 → find test xs ≡ None) → cond b (Some x) (find test xs) ≡ None
+    by true none below = absurd (omega arith)
+    by false none below = below none
+
+no_count : (test : ℕ → Bool) (xs : List ℕ) → find test xs ≡ None → counted test xs ≡ 0
+no_count test [] none = refl
+no_count test (x ∷ xs) none = by (test x) none (no_count test xs)
+  where
+    by : (b : Bool) → cond b (Some x) (find test xs) ≡ None → (find test xs ≡ None → counted test xs ≡ 0) → cond b (1 + counted test xs) (counted test xs) ≡ 0
+    by true none below = absurd (cc)
+    by false none below = below none
+
+none_counted : (test : ℕ → Bool) (xs : List ℕ) → count_by test xs ≡ 0 → find test xs ≡ None
+none_counted test xs none = none_passes test xs (counted_is test xs ∙ none)
 
 none_found : (test : ℕ → Bool) (xs : List ℕ) → find test xs ≡ None → count_by test xs ≡ 0
-none_found test [] none = refl
-none_found test (x ∷ xs) none = by (test x) refl none
-  where
-    by : (b : Bool) → test x ≡ b → cond b (Some x) (find test xs) ≡ None → cond b (1 + count_by test xs) (count_by test xs) ≡ 0
-    by true is none = absurd (cc)
-    by false is none = none_found test xs none
+none_found test xs none = sym (counted_is test xs) ∙ no_count test xs none
 
 abbrev free_in : Reply → ℕ
 free_in (room r) = r.free_inodes

@@ -61,12 +61,7 @@ fn root_refusal(flags: &OpenFlags) -> Refusal
 }
 
 /// Whether a node that is there may be opened as a file.
-fn may_open<S: Store>(
-    s: &mut S,
-    handles: &Handles,
-    n: u32,
-    flags: &OpenFlags,
-) -> Result<(), Stop>
+fn may_open<S: Store>(s: &mut S, handles: &Handles, n: u32, flags: &OpenFlags) -> Result<(), Stop>
     requires live { IsLive (S.state s.old) }
     requires reached { IsReached (S.state s.old) n }
     ensures looks { Looks S.Store (fault_of result) s.old s.new }
