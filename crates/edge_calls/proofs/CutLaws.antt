@@ -1,7 +1,7 @@
 -- What truncate does, at each of its ends.
 use Rattle.std.proofs.Common.{◌≡◌, ◌∙◌, ℕ, ◌/◌, ◌<◌, ◌≤◌, ◌&&◌, nat_lt, Bool, true, false, cond, List, [], ◌∷◌, length, map, ⊎_elim, refl, sym, ap, subst, arith, Option, Some, None}
 use Rattle.std.specs.Prelude.{Result, Ok, Err}
-use Rattle.std.proofs.lemmas.Bool.{cases_lt, lt-ltb, le-ltb, cond-true}
+use Rattle.std.proofs.lemmas.Bool.{cases_lt, lt-ltb, le-ltb}
 use Rattle.edge_base.specs.commands.Descriptors.{Descriptor, Descriptors, descriptor_at}
 use Rattle.edge_base.specs.commands.Events as event
 use Rattle.edge_base.specs.commands.Refusals.{◌>>=◌, refuse_if}
@@ -17,15 +17,12 @@ use Rattle.edge_base.specs.tree.Slots.{pieces}
 use Rattle.edge_handles.specs.declared.Slot.{Slot}
 use Rattle.edge_handles.specs.Table.{descriptor_of}
 use Rattle.edge_store.specs.declared.fault.StoreFault.{StoreFault}
-use Rattle.edge_store.specs.declared.fault.StoreFault.TheVariants.{Damaged}
 use Rattle.edge_store.specs.Calls.{KeepsPoint, KeepsWorking}
 use Rattle.edge_store.specs.State.{StoreState, Told}
 use Rattle.edge_store.specs.View.{View, IsView}
 use Rattle.edge_tree.specs.Own.{UndamagedIf}
-use Rattle.edge_shape.specs.Shape.{HasShape}
 use Rattle.edge_count.specs.Cuts.{removed}
-use Rattle.edge_file.specs.Bytes.{size_at}
-use Rattle.edge_file.specs.Shortened.{has_rest, shortening_need}
+use Rattle.edge_file.specs.Shortened.{has_rest}
 use Rattle.edge_file.specs.Writing.{RoomForSize, IsNodeSized, ShortensTo, LengthensTo, LengthensHead, SetsSize}
 use Rattle.edge_space.specs.declared.change.Change.{Change}
 use Rattle.edge_space.specs.declared.change.Change.TheVariants.{Size}
@@ -37,19 +34,15 @@ use Rattle.edge_model.specs.Asking.{IsInLimits}
 use Rattle.edge_model.specs.Bytes.{IsOfBytes}
 use Rattle.edge_model.specs.Files.{cut, plan_truncate}
 use Rattle.edge_model.specs.Open.{writable_at}
-use Rattle.edge_model.specs.Rules.{IsTree}
 use Rattle.edge_model.specs.State.{State, Plan, Edit, changes}
 use Rattle.edge_model.specs.Step.{plan}
-use Rattle.edge_model.specs.Tree.{Tree, links_of}
+use Rattle.edge_model.specs.Tree.{Tree}
 use Rattle.edge_image.specs.Opens.{StandsFor}
-use Rattle.edge_steps.specs.Listed.{IsListed}
 use Rattle.edge_steps.specs.Session.{IsSession}
-use Rattle.edge_stands.specs.Stands.{StandsWith, indices_at}
-use Rattle.edge_stands.proofs.NodeLaws.{with_links_of}
-use Rattle.edge_stands.proofs.StandingLaws.{each_shape, each_sized}
+use Rattle.edge_stands.specs.Stands.{indices_at}
 use Rattle.edge_changes.specs.Edited.{IsEdited}
-use Rattle.edge_changes.proofs.EditLaws.{text_of, flags_of, file_of, had_by}
-use Rattle.edge_changes.proofs.SizeLaws.{size_was, same_rest, none_cut, none_past, sized_edited}
+use Rattle.edge_changes.proofs.EditLaws.{text_of, flags_of, file_of}
+use Rattle.edge_changes.proofs.SizeLaws.{size_was, same_rest, none_cut, none_past}
 use Rattle.edge_room.specs.Room.{NamesEdit, HasRoomWhere, blocks_in}
 use Rattle.edge_room.proofs.NamedLaws.{both_stay, data_stay, if_stay, removes_kept, set_stays, set_there}
 use Rattle.edge_volume.specs.declared.stop.Stop.{Stop}
@@ -64,6 +57,7 @@ use Rattle.edge_calls.specs.declared.resize.Sizing.{Sizing}
 use Rattle.edge_calls.specs.Sizes.{Sized, sizing_of, sizing_in}
 use Rattle.edge_calls.proofs.RoomLaws.{IsLooked, Judges, Fits, PlansAs, IsCarrying, did_without_room, did_in_judgement, did_in_change, did_in_point, did_answer}
 use Rattle.edge_calls.proofs.PlaceLaws.{file_open}
+use Rattle.edge_calls.proofs.SizedLaws.{PlansSize, size_edited, size_never}
 
 -- ---- the plan
 
@@ -216,45 +210,8 @@ module _ (h size : ℕ) (old : VolumeState) (out : List ℕ) where
       origin : mid.store.origin ≡ old.store.origin
       origin = ends.origin ∙ looked.ends.origin
 
-      geometry_mid : IsGeometry mid.store.origin.request
-      geometry_mid = subst (λ (o : Origin). IsGeometry o.request) (sym origin) geometry
-
-      module _ (of_bytes : IsOfBytes (command.truncate h size)) (limits : IsInLimits (command.truncate h size)) (s : State) (stands : VolumeStands old s) (z : State)
-          (k : IsCarrying mid.store s (plans of_bytes limits s stands).edit z) where
-        file_so : z.tree slot.number ≡ Some (file_of z.tree slot.number)
-        file_so = file_open mid.store.origin.request z h (descriptor_of slot) k.session (ap (λ (ds : Descriptors). descriptor_at ds h) (k.same_descriptors ∙ sym stands.descriptors) ∙ is_open) kind
-
-        all_so : StandsWith mid.store.origin.request mid.store.working z.tree (links_of mid.store.origin.request z.tree)
-        all_so = (with_links_of mid.store.origin.request mid.store.working z.tree).0 k.stands.views.tree
-
-        sized_so : IsNodeSized mid.store slot.number
-        sized_so = each_sized mid.store.origin.request mid.store.working z.tree _ k.stands.views.working_is_view all_so slot.number (file_of z.tree slot.number) file_so geometry_mid
-            (k.session.trees.tree.nodes slot.number _ file_so)
-
-        shape_so : HasShape mid.store.origin.request mid.store.working slot.number (had_by mid.store.origin.request z.tree slot.number)
-        shape_so = each_shape mid.store.origin.request mid.store.working z.tree _ k.stands.views.working_is_view all_so slot.number (file_of z.tree slot.number) file_so geometry_mid
-
-        same_edit : cut mid.store.origin.request z.tree slot.number size ≡ edit_in s
-        same_edit = λ i. cut (origin i).request (k.same_tree i) slot.number size
-
-        edited_so : (made : StoreState) → IsView mid.store.origin.request made.working → ShortensTo mid.store made slot.number size → LengthensTo mid.store made slot.number size
-            → LengthensHead mid.store made slot.number size → SetsSize mid.store made slot.number size
-            → IsEdited mid.store.origin.request mid.store.committed mid.store.working made.working z.tree (edit_in s)
-        edited_so made view shortens lengthens sets size_set =
-            let g = mid.store.origin.request in
-            subst (λ (e : Edit). IsEdited g mid.store.committed mid.store.working made.working z.tree e) same_edit
-            (sized_edited g mid.store.committed mid.store.working made.working z.tree slot.number size geometry_mid k.stands.views.working_is_view k.stands.views.tree k.session.trees.tree file_so
-            (k.session.trees.tree.nodes slot.number _ file_so) (subst (λ (e : Edit). IsTree g e.tree) (sym same_edit) k.tree)
-            (subst (λ (o : Origin). size ≤ max_size_of o.request) (sym origin) within) (subst (λ (e : Edit). IsListed g z.tree e) (sym same_edit) k.listed) (size_set k.stands.told)
-            (λ low. shortens k.stands.told low k.stands.told (had_by g z.tree slot.number) shape_so) (lengthens k.stands.told) (sets k.stands.told))
-
-      -- as many blocks are free as a shorter size needs
-      room_so : HasRoomWhere mid.store change reserve true → Told mid.store → RoomForSize mid.store slot.number size
-      room_so room is_told less =
-          let low = room refl is_told 0 tt in
-          let whole = cond-true (is_longer mid.store.working slot.number size) (shortening_need mid.store.origin.request mid.store.committed mid.store.working slot.number size) 0
-          (lt-ltb size (size_at mid.store.working slot.number) less) in
-          omega arith
+      sizes : PlansSize (command.truncate h size) slot.number size reserve old full plans
+      sizes of_bytes limits s stands = (file_in s stands, refl)
 
       -- a fault comes as the size is set
       pub cut_faulted : (T : Type 0) (fault : StoreFault) (last : VolumeState) → last.mask ≡ old.mask → last.descriptors ≡ old.descriptors → EndsBy (Some fault) mid.store last.store → KeepsPoint mid.store last.store
@@ -262,8 +219,7 @@ module _ (h size : ℕ) (old : VolumeState) (out : List ℕ) where
           → Did (command.truncate h size) (Err (Fault fault)) old last out
       cut_faulted T fault last mask are ended point never room =
           did_in_change (command.truncate h size) old mid out geometry b full change reserve looked plans ends most judges fits mid_mask fault last mask (same_opens old last are) ended point
-          (λ of_bytes limits s stands z k damage e.
-          never k.stands.told (sized_so of_bytes limits s stands z k) (room_so room k.stands.told) damage (ap Err (let f : Some fault ≡ Some (Damaged damage) = e in cc)))
+          (size_never (command.truncate h size) slot.number size reserve old mid geometry full plans sizes within origin T fault never room)
 
       module _ (made : StoreState) (view : Told made → IsView made.origin.request made.working) (made_ends : EndsBy None mid.store made) (point : KeepsPoint mid.store made)
           (shortens : ShortensTo mid.store made slot.number size) (lengthens : LengthensTo mid.store made slot.number size) (sets : LengthensHead mid.store made slot.number size)
@@ -275,7 +231,8 @@ module _ (h size : ℕ) (old : VolumeState) (out : List ℕ) where
         edits : (of_bytes : IsOfBytes (command.truncate h size)) (limits : IsInLimits (command.truncate h size)) (s : State) (stands : VolumeStands old s) (z : State) → IsView mid.store.origin.request made.working
             → IsCarrying mid.store s (plans of_bytes limits s stands).edit z
             → IsEdited mid.store.origin.request mid.store.committed mid.store.working made.working z.tree (plans of_bytes limits s stands).edit
-        edits of_bytes limits s stands z is_view k = edited_so of_bytes limits s stands z k made is_view shortens lengthens sets size_set
+        edits of_bytes limits s stands z is_view k =
+            size_edited (command.truncate h size) slot.number size reserve old mid geometry full plans sizes within origin of_bytes limits s stands z k made is_view shortens lengthens sets size_set
 
         -- a fault comes in the point behind
         pub cut_ended : (fault : StoreFault) → EndsBy (Some fault) made last.store → TakesUpTo (points_due due) made last.store
@@ -289,6 +246,6 @@ module _ (h size : ℕ) (old : VolumeState) (out : List ℕ) where
             → ((z : State) → StoreStands made z → Comes None made last.store z (point_after due z) (trees_after due z)) → Did (command.truncate h size) (Ok a.Done) old last out
         cut_done ended takes comes =
             did_answer (command.truncate h size) old mid out geometry b full change reserve looked plans ends most judges fits mid_mask made view made_ends point edits due due_so last mask
-            (same_opens old last are) a.Done ended takes comes (mask_kept (command.truncate h size) (Ok a.Done) old last refl (λ answer. tt) mask)
+            a.Done ended takes comes (mask_kept (command.truncate h size) (Ok a.Done) old last refl (λ answer. tt) mask)
             (record { after = same_opens old last are; stays = λ x. same_opens old last are }) tt
             (λ of_bytes limits s stands. (refl, mask ∙ stands.mask, are ∙ stands.descriptors))

@@ -10,6 +10,7 @@ pub mod RoomLaws
 pub mod PlaceLaws
 pub mod WriteLaws
 pub mod SizingLaws
+pub mod SizedLaws
 pub mod CutLaws
 pub mod ContentLaws
 pub mod ReadLaws
@@ -18,9 +19,13 @@ pub mod ReadDirLaws
 pub mod NamePlanLaws
 pub mod NameEditLaws
 pub mod UnnameLaws
+pub mod OpeningLaws
+pub mod OpenedLaws
+pub mod EmptyLaws
 pub mod VacancyLaws
 pub mod MakeLaws
 pub mod PutLaws
 pub mod MakeDirLaws
+pub mod CreateLaws
 pub mod LinkPlanLaws
 pub mod LinkLaws

@@ -163,6 +163,6 @@ module _ (path to : List ℕ) (old : VolumeState) (out : List ℕ) where
             (λ of_bytes in_limits s stands z is_view k.
             subst (λ (e : Edit). IsEdited mid.store.origin.request mid.store.committed mid.store.working made.working z.tree e) (same_edit s z k.same_tree)
             (links z k.stands (may_so of_bytes in_limits s stands z k))) due due_so last mask
-            (same_opens old last are) a.Done ended takes comes (mask_kept asked (Ok a.Done) old last refl (λ answer. tt) mask)
+            a.Done ended takes comes (mask_kept asked (Ok a.Done) old last refl (λ answer. tt) mask)
             (record { after = same_opens old last are; stays = λ x. same_opens old last are }) tt
             (λ of_bytes in_limits s stands. (refl, mask ∙ stands.mask, are ∙ stands.descriptors))

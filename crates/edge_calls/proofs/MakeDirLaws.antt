@@ -169,6 +169,6 @@ module _ (path : List ℕ) (old : VolumeState) (out : List ℕ) where
         make_done ended takes comes =
             did_answer asked old mid out geometry b full change 3 looked plans ends most judges fits mid_mask made view made_ends point
             (λ of_bytes in_limits s stands z is_view k. (makes_node z (new_in s stands) k.stands (planned_so of_bytes in_limits s stands z k)).1) due due_so last mask
-            (same_opens old last are) a.Done ended takes comes (mask_kept asked (Ok a.Done) old last refl (λ answer. tt) mask)
+            a.Done ended takes comes (mask_kept asked (Ok a.Done) old last refl (λ answer. tt) mask)
             (record { after = same_opens old last are; stays = λ x. same_opens old last are }) tt
             (λ of_bytes in_limits s stands. (refl, mask ∙ stands.mask, are ∙ stands.descriptors))

@@ -186,10 +186,10 @@ module _ (command : Asked) (old mid : VolumeState) (out : List ℕ) (geometry : 
   mid_most = takes_on 0 1 1 old.store b mid.store (omega arith) (takes_none 0 old.store b looked.point.points) most
 
   module _ (of_bytes : IsOfBytes command) (limits : IsInLimits command) (s : State) (stands : VolumeStands old s) where
-    abbrev planned_as : Plans old.store full change reserve s command
+    abbrev pub planned_as : Plans old.store full change reserve s command
     planned_as = plans of_bytes limits s stands
 
-    abbrev at_change : State
+    abbrev pub at_change : State
     at_change = (judged (request_of old) s planned_as.done.edit).state
 
     abbrev judged_so : IsJudged (request_of old) s command None old mid
@@ -198,7 +198,7 @@ module _ (command : Asked) (old mid : VolumeState) (out : List ℕ) (geometry : 
     fits_so : (judged (request_of old) s planned_as.done.edit).fits ≡ true
     fits_so = sym (fits_on old.store b mid.store full change reserve looked s command planned_as true fits)
 
-    carrying : IsCarrying mid.store s planned_as.edit at_change
+    pub carrying : IsCarrying mid.store s planned_as.edit at_change
     carrying = record {
       stands = judged_so.judge.to_state refl;
       session = subst (λ (o : Origin). IsSession o.request at_change) (sym origin) (judged_session (request_of old) s planned_as.done.edit stands.session);
@@ -244,7 +244,7 @@ module _ (command : Asked) (old mid : VolumeState) (out : List ℕ) (geometry : 
       → IsCarrying mid.store s (plans of_bytes limits s stands).edit z
       → IsEdited mid.store.origin.request mid.store.committed mid.store.working made.working z.tree (plans of_bytes limits s stands).edit)
       (due : Bool) (is_due : (of_bytes : IsOfBytes command) (limits : IsInLimits command) (s : State) (stands : VolumeStands old s) → (plans of_bytes limits s stands).done.point ≡ due)
-      (last : VolumeState) (mask : last.mask ≡ old.mask) (opens : opens_of last ≡ opens_of old) where
+      (last : VolumeState) (mask : last.mask ≡ old.mask) where
     made_so : (of_bytes : IsOfBytes command) (limits : IsInLimits command) (s : State) (stands : VolumeStands old s)
         → StoreStands made (planned (request_of old) (at_change of_bytes limits s stands) (plans of_bytes limits s stands).done)
     made_so of_bytes limits s stands =
@@ -277,9 +277,9 @@ module _ (command : Asked) (old mid : VolumeState) (out : List ℕ) (geometry : 
     ends_all fault ended = ends_on fault old.store mid.store last.store mid_ends (ends_on fault mid.store made last.store made_ends ended)
 
     -- a fault comes in the point behind
-    pub did_in_point : (fault : StoreFault) → EndsBy (Some fault) made last.store → TakesUpTo (points_due due) made last.store
+    pub did_in_point : opens_of last ≡ opens_of old → (fault : StoreFault) → EndsBy (Some fault) made last.store → TakesUpTo (points_due due) made last.store
         → ((z : State) → StoreStands made z → Comes (Some fault) made last.store z (point_after due z) (trees_after due z)) → Did command (Err (Fault fault)) old last out
-    did_in_point fault ended takes comes =
+    did_in_point opens fault ended takes comes =
         did_changed_fault command old last out mid fault (ends_all (Some fault) ended) (takes_two takes) mask (λ x. opens) (carried (Some fault) comes)
 
     -- it is answered

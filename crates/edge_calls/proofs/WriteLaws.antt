@@ -252,7 +252,7 @@ module _ (command : Asked) (h : ℕ) (new : List ℕ) (w : Writes command h new)
         pub write_done : EndsBy None made last.store → TakesUpTo (points_due due) made last.store
             → ((z : State) → StoreStands made z → Comes None made last.store z (point_after due z) (trees_after due z)) → Did command (Ok (a.Number len)) old last out
         write_done ended takes comes =
-            did_answer command old mid out geometry b full change 3 looked plans ends most judges fits mid_mask made view made_ends point edits due due_so last mask opens (a.Number len) ended takes comes
+            did_answer command old mid out geometry b full change 3 looked plans ends most judges fits mid_mask made view made_ends point edits due due_so last mask (a.Number len) ended takes comes
             (keeps_mask command h new w _ old last mask) (keeps_open command h new w _ old last opens) tt
             (λ of_bytes limits s stands. (
               ap (λ m. Ok (number m)) is_len,

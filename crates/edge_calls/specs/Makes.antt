@@ -33,6 +33,12 @@ vacancy_of t (within d name) = do
 abbrev pub is_behind : Request → ℕ → Bool
 is_behind g slot = nat_le (max_blocks_of g) (slot / slots_in_block g)
 
+-- whether a new node may be made, with its name in a slot
+abbrev pub may_take : Request → Tree → ℕ → Result (Unit {0}) Refusal
+may_take g t slot = do
+  _ ← or_refuse (free_number g t) refusal.NoInodes
+  refuse_if (is_behind g slot) refusal.TooBig
+
 -- where the name of a new node goes, or why there is none
 abbrev pub node_place : Request → Tree → Spot → Result NewName Refusal
 node_place g t spot = do

@@ -7,6 +7,7 @@ mod directory;
 mod handles;
 mod link;
 mod make;
+mod open;
 mod read;
 mod resize;
 mod session;

@@ -1,4 +1,4 @@
-ghost use Rattle.std.specs.Prelude.{◌≡◌, ◌<◌, ◌≤◌, ◌/◌, length, IfOk};
+ghost use Rattle.std.specs.Prelude.{◌≡◌, ◌<◌, ◌≤◌, ◌/◌, length, IfOk, OnOk};
 ghost use Rattle.edge_base.specs.layout.Places.{max_blocks_of};
 ghost use Rattle.edge_base.specs.tree.Slots.{slots_in_block};
 ghost use Rattle.edge_store.specs.State.{IsLive};
@@ -7,7 +7,7 @@ ghost use Rattle.edge_volume.specs.Parts.{Looks, IsOfNoDamage};
 ghost use Rattle.edge_volume.specs.Stopped.{fault_of, IfAnswered};
 ghost use Rattle.edge_walk.specs.Reached.{IsHolder};
 ghost use Rattle.edge_walk.specs.Spots.{HasHolder, HasShortName, spot_in};
-ghost use Rattle.edge_calls.specs.Makes.{is_behind, node_place, vacancy_of, vacated};
+ghost use Rattle.edge_calls.specs.Makes.{is_behind, may_take, node_place, vacancy_of, vacated};
 
 use edge_base::{Geometry, Refusal};
 use edge_dir::Place;
@@ -74,4 +74,21 @@ pub(crate) fn node_place<'a, S: Store>(s: &mut S, spot: Spot<'a>) -> Result<Vaca
         return Err(Stop::Refused(Refusal::TooBig));
     }
     Ok(at)
+}
+
+/// Whether a new node may be made, with its name in a slot.
+pub(crate) fn may_take<S: Store>(s: &S, slot: u64) -> Result<(), Refusal>
+    requires live { IsLive (S.state s.now) }
+    ensures may { OnTree (S.state s.now)
+        (λ t. result ≡ may_take (S.state s.now).origin.request t slot) }
+    ensures block { OnOk result (slot / slots_in_block (S.state s.now).origin.request
+        < max_blocks_of (S.state s.now).origin.request) }
+{
+    if s.free_inodes() == 0 {
+        return Err(Refusal::NoInodes);
+    }
+    if is_behind(s.geometry(), slot) {
+        return Err(Refusal::TooBig);
+    }
+    Ok(())
 }

@@ -27,7 +27,7 @@ module _ {A : Type 0} (S : StoreGhosts A) (a b : A) (looks : Looks S None a b) w
   told_before told = ap (λ (o : Origin). o.tells) (sym looks.ends.origin) ∙ told
 
   -- a state that the store stands for afterwards is one that it stood for before
-  stood_before : (z : State) → StoreStands (S.state b) z → StoreStands (S.state a) z
+  pub stood_before : (z : State) → StoreStands (S.state b) z → StoreStands (S.state a) z
   stood_before z stands = record {
     told = told_before stands.told;
     whole = sym looks.point.under_way ∙ stands.whole;
