@@ -3,3 +3,4 @@ pub mod TreeLaws
 pub mod StepLaws
 pub mod WayLaws
 pub mod FindLaws
+pub mod ThroughLaws
