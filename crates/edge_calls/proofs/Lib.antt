@@ -15,3 +15,5 @@ pub mod ContentLaws
 pub mod ReadLaws
 pub mod SlotLaws
 pub mod ReadDirLaws
+pub mod RenamePlanLaws
+pub mod RenameTreeLaws

@@ -6,6 +6,7 @@ mod descriptors;
 mod directory;
 mod handles;
 mod read;
+mod rename;
 mod resize;
 mod session;
 mod status;
