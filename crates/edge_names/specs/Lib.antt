@@ -2,3 +2,4 @@ pub mod Carried
 pub mod Made
 pub mod Linked
 pub mod Unnamed
+pub mod Moved

@@ -4,8 +4,10 @@
 
 mod link;
 mod make;
+mod moves;
 mod unname;
 
 pub use link::add_name;
 pub use make::make_node;
+pub use moves::{Move, NamedNode, move_name};
 pub use unname::{drop_node, remove_name};
