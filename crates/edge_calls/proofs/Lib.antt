@@ -17,3 +17,6 @@ pub mod SlotLaws
 pub mod ReadDirLaws
 pub mod RenamePlanLaws
 pub mod RenameTreeLaws
+pub mod RenameNamedLaws
+pub mod RenameMayLaws
+pub mod RenameLaws

@@ -17,6 +17,8 @@ use Rattle.edge_model.specs.Tree.{Tree, is_directory, slots_at}
 use Rattle.edge_model.specs.Walk.{Spot, top, within, Found, at_spot, find_name, is_top, walk}
 use Rattle.edge_volume.specs.Nodes.{IsNodeOf}
 use Rattle.edge_walk.specs.Ways.{goes_through}
+use Rattle.edge_names.specs.Moved.{number_of}
+use Rattle.edge_names.specs.declared.moves.Move.{Move}
 use Rattle.edge_names.specs.declared.moves.NamedNode.{NamedNode}
 use Rattle.edge_calls.specs.declared.rename.Named.{Named}
 use Rattle.edge_calls.specs.declared.rename.Renaming.{Renaming}
@@ -125,18 +127,17 @@ abbrev pub number_as : Result NamedNode Refusal → Result ℕ Refusal
 number_as (Ok node) = Ok node.number
 number_as (Err e) = Err e
 
-abbrev pub number_in : Option NamedNode → Option ℕ
-number_in None = None
-number_in (Some node) = Some node.number
+abbrev pub rename_with : Move → List ℕ → Rename
+rename_with m name = record {
+  held = record { dir = m.from.dir; slot = m.from.slot; number = m.node.number };
+  name = record { dir = m.to.dir; name = name };
+  slot = m.to.slot;
+  replaced = number_of m.replaced;
+}
 
 abbrev pub rename_by : Option Renaming → Option Rename
 rename_by None = None
-rename_by (Some r) = Some (record {
-  held = record { dir = r.change.from.dir; slot = r.change.from.slot; number = r.change.node.number };
-  name = record { dir = r.change.to.dir; name = r.name.now };
-  slot = r.change.to.slot;
-  replaced = number_in r.change.replaced;
-})
+rename_by (Some r) = Some (rename_with r.change r.name.now)
 
 abbrev pub rename_as : Result (Option Renaming) Refusal → Result (Option Rename) Refusal
 rename_as (Ok r) = Ok (rename_by r)

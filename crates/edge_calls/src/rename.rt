@@ -301,6 +301,7 @@ impl<S: Store> Volume<S> {
             take_point(&mut self.store, self.mask.has(Events::RENAME))?;
             return Ok(Answer::Done);
         };
+        let _within_limits = self.store.geometry().request();
         let slots = Change::Slots {
             put: Some(change.to),
             clear: Some(change.from),

@@ -42,8 +42,8 @@ loop-next-preserved g c =
       goes = goes_on g.S.Store c.args.s.now c.loop-next.s l.looks c.loop-next.d c.args.n c.loop-next.name.now c.args.names c.loop-next.next-iterator
           c.loop-next.through l.goes c.in_ok-d.d c.in-Some-next.next.now c.next-in-loop-next.new.self c.if-through.through
           (elim c.if-through.branch [
-            | then-through w ↦ or_then c.loop-next.through (c.loop-next.d == c.args.n) c.if-through.through w.if-through w.through-is
-            | else-through w ↦ or_else c.loop-next.through (c.loop-next.d == c.args.n) c.if-through.through w.if-through w.through-is
+            | then-through w ↦ or_then c.loop-next.through (c.loop-next.d == c.args.n) c.if-through.through w.if-through.true w.through-is
+            | else-through w ↦ or_else c.loop-next.through (c.loop-next.d == c.args.n) c.if-through.through w.if-through.false w.through-is
           ])
           c.in-Some-next.ensures.steps c.in_ok-d.ensures.number;
     }
@@ -89,7 +89,7 @@ returns-clause-through g c =
     goes_in g.S.Store c.args.s.now c.loop-next.s c.loop-next.invariant.looks c.loop-next.d c.args.n c.loop-next.name.now c.args.names c.loop-next.next-iterator
     c.loop-next.through c.loop-next.invariant.goes c.if-through-2.result
     (elim c.if-through-2.branch [
-      | then-through-2 w ↦ or_then c.loop-next.through (c.loop-next.d == c.args.n) c.if-through-2.result w.if-through-2 w.result-is
-      | else-through-2 w ↦ or_else c.loop-next.through (c.loop-next.d == c.args.n) c.if-through-2.result w.if-through-2 w.result-is
+      | then-through-2 w ↦ or_then c.loop-next.through (c.loop-next.d == c.args.n) c.if-through-2.result w.if-through-2.true w.result-is
+      | else-through-2 w ↦ or_else c.loop-next.through (c.loop-next.d == c.args.n) c.if-through-2.result w.if-through-2.false w.result-is
     ])
     c.in-None.ensures.steps.0
