@@ -3,3 +3,4 @@ pub mod Made
 pub mod Linked
 pub mod Unnamed
 pub mod Moved
+pub mod Stepped

@@ -1,13 +1,16 @@
-ghost use Rattle.std.specs.Prelude.{◌≤◌, length, IfSome, OnOk, Some};
+ghost use Rattle.std.specs.Prelude.{◌≡◌, ◌≤◌, ℕ, true, length, IfSome, OnOk, Some};
 ghost use Rattle.edge_space.specs.Answers.{AreThere};
 ghost use Rattle.edge_space.specs.Changes.{IsWithin};
+ghost use Rattle.edge_space.specs.Slots.{IsSlotWithin};
 ghost use Rattle.edge_space.specs.declared.change.Change.TheVariants.{Slots};
 ghost use Rattle.edge_store.specs.Calls.{KeepsPoint};
-ghost use Rattle.edge_store.specs.State.{IsLive};
+ghost use Rattle.edge_store.specs.State.{IsLive, IsNumber, HasInode};
+ghost use Rattle.edge_store.specs.View.{is_head};
 ghost use Rattle.edge_volume.specs.Stopped.{fault_in};
 ghost use Rattle.edge_volume.specs.Parts.{EndsBy};
 ghost use Rattle.edge_volume.specs.Nodes.{IsNodeOf};
 ghost use Rattle.edge_names.specs.Moved.{Moves, NeverMoving};
+ghost use Rattle.edge_names.specs.Stepped.{KeepsNodes, PutsName, NeverOnNamed, SetsParent, TakesLink};
 
 use edge_base::{Head, NodeType};
 use edge_cut::cut_from;
@@ -33,7 +36,18 @@ pub struct Move {
 }
 
 /// Puts the name of a node into its new slot.
-fn put_name<S: Store>(s: &mut S, change: &Move, name: &[u8]) -> Result<(), StoreFault> {
+fn put_name<S: Store>(s: &mut S, change: &Move, name: &[u8]) -> Result<(), StoreFault>
+    requires live { IsLive (S.state s.old) }
+    requires number { IsNumber (S.state s.old) change.now.to.dir }
+    requires there { HasInode (S.state s.old) change.now.to.dir }
+    requires block { IsSlotWithin (S.state s.old).origin.request change.now.to }
+    requires name { length name.now ≤ (S.state s.old).origin.request.name_max }
+    ensures ends { EndsBy (fault_in result) (S.state s.old) (S.state s.new) }
+    ensures point { KeepsPoint (S.state s.old) (S.state s.new) }
+    ensures keeps { OnOk result (KeepsNodes (S.state s.old) (S.state s.new)) }
+    ensures undamaged { NeverMoving (S.state s.old) change.now name.now (fault_in result) }
+    ensures put { OnOk result (PutsName (S.state s.old) (S.state s.new) change.now name.now) }
+{
     let to = change.to;
     match change.replaced {
         None => place(s, to.dir, to.slot, name, change.node.number),
@@ -42,7 +56,17 @@ fn put_name<S: Store>(s: &mut S, change: &Move, name: &[u8]) -> Result<(), Store
 }
 
 /// Gives a node that is a directory another parent.
-fn set_parent<S: Store>(s: &mut S, node: NamedNode, parent: u32) -> Result<(), StoreFault> {
+fn set_parent<S: Store>(s: &mut S, node: NamedNode, parent: u32) -> Result<(), StoreFault>
+    requires live { IsLive (S.state s.old) }
+    requires number { IsNumber (S.state s.old) node.number }
+    requires there { HasInode (S.state s.old) node.number }
+    requires rules { is_head node.head ≡ true }
+    ensures ends { EndsBy (fault_in result) (S.state s.old) (S.state s.new) }
+    ensures point { KeepsPoint (S.state s.old) (S.state s.new) }
+    ensures keeps { OnOk result ((n : ℕ) → HasInode (S.state s.old) n → HasInode (S.state s.new) n) }
+    ensures undamaged { NeverOnNamed (S.state s.old) node (fault_in result) }
+    ensures set { OnOk result (SetsParent (S.state s.old) (S.state s.new) node parent) }
+{
     if node.head.kind == NodeType::File || node.head.parent == parent {
         return Ok(());
     }
@@ -54,7 +78,17 @@ fn set_parent<S: Store>(s: &mut S, node: NamedNode, parent: u32) -> Result<(), S
 }
 
 /// Takes a link from a node, and drops it with all its blocks where it was the last.
-fn take_link<S: Store>(s: &mut S, node: NamedNode) -> Result<(), StoreFault> {
+fn take_link<S: Store>(s: &mut S, node: NamedNode) -> Result<(), StoreFault>
+    requires live { IsLive (S.state s.old) }
+    requires number { IsNumber (S.state s.old) node.number }
+    requires there { HasInode (S.state s.old) node.number }
+    requires rules { is_head node.head ≡ true }
+    ensures ends { EndsBy (fault_in result) (S.state s.old) (S.state s.new) }
+    ensures point { KeepsPoint (S.state s.old) (S.state s.new) }
+    ensures undamaged { NeverOnNamed (S.state s.old) node (fault_in result) }
+    ensures taken { OnOk result (TakesLink (S.state s.old) (S.state s.new) node) }
+{
+    let _within_limits = s.geometry().request();
     if node.head.links == 1 {
         cut_from(s, node.number, 0)?;
         return s.drop_inode(node.number);
