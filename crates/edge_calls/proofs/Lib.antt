@@ -20,3 +20,4 @@ pub mod RenameTreeLaws
 pub mod RenameNamedLaws
 pub mod RenameMayLaws
 pub mod RenameLaws
+pub mod RenameAtLaws

@@ -204,7 +204,7 @@ fn new_slot(g: Geometry, slot: u64) -> Result<u64, Refusal>
 }
 
 /// A name that is moved into a slot, where a node may be replaced.
-fn renaming<'a>(
+fn moved_into<'a>(
     named: Named,
     wanted: Wanted<'a>,
     slot: u64,
@@ -255,14 +255,14 @@ fn renaming_to<'a, S: Store>(
     match place_at(s, wanted.dir, wanted.name)? {
         Place::Free(slot) => {
             let slot = new_slot(s.geometry(), slot)?;
-            Ok(Some(renaming(named, wanted, slot, None)))
+            Ok(Some(moved_into(named, wanted, slot, None)))
         }
         Place::Taken(found) => {
             if found.number == named.node.number {
                 return Ok(None);
             }
             let there = replaced_at(s, handles, named.node, found.number)?;
-            Ok(Some(renaming(named, wanted, found.slot, Some(there))))
+            Ok(Some(moved_into(named, wanted, found.slot, Some(there))))
         }
     }
 }

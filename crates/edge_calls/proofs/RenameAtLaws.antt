@@ -1,0 +1,122 @@
+-- What the parts of a rename find, in the words of a tree, and of the tree that a store stands for.
+use Rattle.std.proofs.Common.{◌≡◌, ◌∙◌, ℕ, ◌==◌, ◌/◌, ◌&&◌, not, Bool, true, false, cond, List, refl, sym, ap, subst, Option, Some, None}
+use Rattle.std.specs.Prelude.{nat_le, Result, Ok, Err}
+use Rattle.edge_base.specs.commands.Descriptors.{Descriptors, first_empty, is_open}
+use Rattle.edge_base.specs.commands.Paths.{names_in}
+use Rattle.edge_base.specs.commands.Refusals.{◌>>=◌, refuse_if, or_refuse}
+use Rattle.edge_base.specs.declared.geometry.Request.{Request}
+use Rattle.edge_base.specs.declared.node.Head.{Head}
+use Rattle.edge_base.specs.declared.node.NodeType.TheVariants.{File, Directory}
+use Rattle.edge_base.specs.declared.refusal.Refusal.{Refusal}
+use Rattle.edge_base.specs.declared.refusal.Refusal.TheVariants as refusal
+use Rattle.edge_base.specs.layout.Places.{max_blocks_of}
+use Rattle.edge_base.specs.tree.Slots.{slots_in_block}
+use Rattle.edge_store.specs.State.{StoreState}
+use Rattle.edge_model.specs.Names.{has_one_link, is_empty}
+use Rattle.edge_model.specs.Tree.{Tree, is_directory, slots_at}
+use Rattle.edge_model.specs.Walk.{Found, Spot, at_spot, find_name, walk}
+use Rattle.edge_steps.proofs.NodeLaws.{is_a_directory, is_a_file}
+use Rattle.edge_volume.specs.Nodes.{IsNodeOf, OnTree, head_at}
+use Rattle.edge_volume.proofs.NodeLaws.{head_of_number}
+use Rattle.edge_walk.specs.Ways.{goes_through}
+use Rattle.edge_walk.proofs.TreeLaws.{directory_of, file_of}
+use Rattle.edge_calls.specs.Renames.{Held, NameIn, Rename, held_at, held_of, name_at, name_for, paths_of, rename_in, rename_of, rename_onto, replaced_by}
+
+-- ---- the two names
+
+module _ (t : Tree) (names : List (List ℕ)) where
+  -- what has the name that is to be moved
+  pub held_refused : (e : Refusal) → Err e ≡ walk t names → Err e ≡ held_of t names
+  held_refused e is = ap (λ (r : Result Spot Refusal). r >>= λ spot. or_refuse (at_spot t spot) refusal.NoEntry >>= λ found. held_at spot found) is
+
+  pub held_found : (spot : Spot) (o : Option Found) → Ok spot ≡ walk t names → o ≡ at_spot t spot → (or_refuse o refusal.NoEntry >>= λ found. held_at spot found) ≡ held_of t names
+  held_found spot o is there =
+      ap (λ (x : Option Found). or_refuse x refusal.NoEntry >>= λ found. held_at spot found) there
+      ∙ ap (λ (r : Result Spot Refusal). r >>= λ spot. or_refuse (at_spot t spot) refusal.NoEntry >>= λ found. held_at spot found) is
+
+  -- the name that node n is to have
+  pub name_refused : (n : ℕ) (e : Refusal) → Err e ≡ walk t names → Err e ≡ name_for t names n
+  name_refused n e is = ap (λ (r : Result Spot Refusal). r >>= λ spot. refuse_if (is_directory t n && goes_through t names n) refusal.Invalid >>= λ _. name_at spot) is
+
+  pub name_found : (n : ℕ) (spot : Spot) (below : Bool) → Ok spot ≡ walk t names → below ≡ (is_directory t n && goes_through t names n)
+      → (refuse_if below refusal.Invalid >>= λ _. name_at spot) ≡ name_for t names n
+  name_found n spot below is same =
+      ap (λ (b : Bool). refuse_if b refusal.Invalid >>= λ _. name_at spot) same
+      ∙ ap (λ (r : Result Spot Refusal). r >>= λ spot. refuse_if (is_directory t n && goes_through t names n) refusal.Invalid >>= λ _. name_at spot) is
+
+-- ---- a node that is replaced
+
+-- by its tests one after another
+pub replaced_is : (g : Request) (t : Tree) (ds : Descriptors) (n r : ℕ) (a b c d : Bool) → a ≡ is_directory t n → b ≡ is_directory t r
+    → c ≡ (is_directory t r && not (is_empty (slots_at t r))) → d ≡ (has_one_link g t r && is_open ds r)
+    → (refuse_if (a && not b) refusal.NotDir >>= λ _. refuse_if (not a && b) refusal.IsDir >>= λ _. refuse_if c refusal.NotEmpty >>= λ _. refuse_if d refusal.Busy >>= λ _. Ok r)
+    ≡ replaced_by g t ds n r
+replaced_is g t ds n r a b c d one two three four i =
+    refuse_if (one i && not (two i)) refusal.NotDir >>= λ _. refuse_if (not (one i) && two i) refusal.IsDir >>= λ _. refuse_if (three i) refusal.NotEmpty
+    >>= λ _. refuse_if (four i) refusal.Busy >>= λ _. Ok r
+
+-- ---- what is at the new name
+
+module _ (g : Request) (t : Tree) (ds : Descriptors) (held : Held) (name : NameIn) where
+  abbrev into : ℕ → Option ℕ → Rename
+  into slot replaced = record { held = held; name = name; slot = slot; replaced = replaced }
+
+  -- nothing, and this is the first empty slot
+  pub onto_none : (slot : ℕ) (r : Result ℕ Refusal) → (find_name t name.dir name.name ≡ None) × (slot ≡ first_empty (slots_at t name.dir))
+      → r ≡ (refuse_if (nat_le (max_blocks_of g) (slot / slots_in_block g)) refusal.TooBig >>= λ u. Ok slot)
+      → (r >>= λ k. Ok (Some (into k None))) ≡ rename_in g t ds held name
+  onto_none slot r there is =
+      ap (λ (x : Result ℕ Refusal). x >>= λ k. Ok (Some (into k None))) is
+      ∙ ap (λ (k : ℕ). (refuse_if (nat_le (max_blocks_of g) (k / slots_in_block g)) refusal.TooBig >>= λ u. Ok k) >>= λ k. Ok (Some (into k None))) there.1
+      ∙ ap (rename_onto g t ds held name) (sym there.0)
+
+  module _ (found : Found) (there : find_name t name.dir name.name ≡ Some found) where
+    abbrev onto : Bool → Result ℕ Refusal → Result (Option Rename) Refusal
+    onto same r = cond same (Ok None) (r >>= λ k. Ok (Some (into found.slot (Some k))))
+
+    -- the node itself
+    pub onto_same : (found.number == held.number) ≡ true → Ok None ≡ rename_in g t ds held name
+    onto_same same = ap (λ (b : Bool). onto b (replaced_by g t ds held.number found.number)) (sym same) ∙ ap (rename_onto g t ds held name) (sym there)
+
+    -- another one
+    pub onto_other : (found.number == held.number) ≡ false → (r : Result ℕ Refusal) → r ≡ replaced_by g t ds held.number found.number
+        → (r >>= λ k. Ok (Some (into found.slot (Some k)))) ≡ rename_in g t ds held name
+    onto_other other r is =
+        ap (onto false) is ∙ ap (λ (b : Bool). onto b (replaced_by g t ds held.number found.number)) (sym other) ∙ ap (rename_onto g t ds held name) (sym there)
+
+-- ---- all together
+
+module _ (g : Request) (t : Tree) (ds : Descriptors) (path to : List ℕ) where
+  pub paths_refused : (e : Refusal) → paths_of g path to ≡ Err e → Err e ≡ rename_of g t ds path to
+  paths_refused e is =
+      ap (λ (r : Result (Unit {0}) Refusal). r >>= λ _. held_of t (names_in path) >>= λ held. name_for t (names_in to) held.number >>= λ name. rename_in g t ds held name) (sym is)
+
+  module _ (is : paths_of g path to ≡ Ok tt) where
+    -- what was found of the first name, and what follows
+    pub by_held : (h : Result Held Refusal) → h ≡ held_of t (names_in path)
+        → (h >>= λ held. name_for t (names_in to) held.number >>= λ name. rename_in g t ds held name) ≡ rename_of g t ds path to
+    by_held h there =
+        ap (λ (x : Result Held Refusal). x >>= λ held. name_for t (names_in to) held.number >>= λ name. rename_in g t ds held name) there
+        ∙ ap (λ (r : Result (Unit {0}) Refusal). r >>= λ _. held_of t (names_in path) >>= λ held. name_for t (names_in to) held.number >>= λ name. rename_in g t ds held name) (sym is)
+
+    pub by_name : (held : Held) → Ok held ≡ held_of t (names_in path) → (n : Result NameIn Refusal) → n ≡ name_for t (names_in to) held.number
+        → (n >>= λ name. rename_in g t ds held name) ≡ rename_of g t ds path to
+    by_name held there n named = ap (λ (x : Result NameIn Refusal). x >>= λ name. rename_in g t ds held name) named ∙ by_held (Ok held) there
+
+    pub by_place : (held : Held) (name : NameIn) → Ok held ≡ held_of t (names_in path) → Ok name ≡ name_for t (names_in to) held.number
+        → (r : Result (Option Rename) Refusal) → r ≡ rename_in g t ds held name → r ≡ rename_of g t ds path to
+    by_place held name there named r same = same ∙ by_name held there (Ok name) named
+
+-- ---- the kind of a node
+
+pub head_in_tree : (st : StoreState) (n : ℕ) (head : Head) → IsNodeOf st n head → OnTree st (λ t. Some head ≡ head_at st.origin.request t n)
+head_in_tree st n head node z stands tree = sym (node.is_head stands.told) ∙ head_of_number st.origin.request st.working z.tree stands.views.tree n
+
+module _ (st : StoreState) (n : ℕ) (head : Head) (node : IsNodeOf st n head) where
+  pub directory_in : head.kind ≡ Directory → OnTree st (λ t. is_directory t n ≡ true)
+  directory_in kind z stands tree =
+      let r = directory_of st.origin.request z.tree n head (head_in_tree st n head node z stands tree) kind in is_a_directory z.tree n r.0 r.1 r.2
+
+  pub file_in : head.kind ≡ File → OnTree st (λ t. is_directory t n ≡ false)
+  file_in kind z stands tree =
+      let r = file_of st.origin.request z.tree n head (head_in_tree st n head node z stands tree) kind in is_a_file z.tree n r.0 r.1 r.2
