@@ -51,6 +51,7 @@ use Rattle.edge_changes.specs.Edited.{IsEdited}
 use Rattle.edge_changes.proofs.EditLaws.{text_of, flags_of, file_of, had_by}
 use Rattle.edge_changes.proofs.SizeLaws.{size_was, same_rest, none_cut, none_past, sized_edited}
 use Rattle.edge_room.specs.Room.{NamesEdit, HasRoomWhere, blocks_in}
+use Rattle.edge_room.proofs.NamedLaws.{both_stay, data_stay, if_stay, removes_kept, set_stays, set_there}
 use Rattle.edge_volume.specs.declared.stop.Stop.{Stop}
 use Rattle.edge_volume.specs.declared.stop.Stop.TheVariants.{Refused, Fault}
 use Rattle.edge_volume.specs.Stopped.{fault_of, IfAnswered}
@@ -121,7 +122,18 @@ module _ (g : Request) (v : View) (t : Tree) (n size : ℕ) (geometry : IsGeomet
       (cases_lt size (length (text_of t n)))
 
   pub cut_named : (reserve : ℕ) → (cut g t n size).reserve ≡ reserve → NamesEdit g v t (Size n size) reserve (cut g t n size)
-  cut_named reserve leaves = record { left = 0; are_left = tt; writes = λ p. ap (λ ps. has ps p) cut_writes; removes = λ p. ap (λ ps. has ps p) cut_removes; leaves = leaves }
+  cut_named reserve leaves =
+      let u : Tree = (cut g t n size).tree in
+      let stays = set_there t n _ in
+      record {
+        left = 0;
+        are_left = tt;
+        writes = λ p. ap (λ ps. has ps p) cut_writes;
+        removes = λ p. ap (λ ps. has ps p) cut_removes ∙ removes_kept g t u (set_stays t t n _ (λ x there. there)) (removes_of g v (Size n size) (blocks_in g t) 0) p;
+        stay = both_stay u (cut g t n size).writes (removes_of g v (Size n size) (blocks_in g t) 0) (data_stay u n _ stays)
+            (if_stay u (is_longer v n size) (removed n (pieces g.block_size size) (blocks_in g t n)) (data_stay u n _ stays));
+        leaves = leaves;
+      }
 
 -- ---- ends
 

@@ -1,6 +1,6 @@
 -- What the parts of a rename find, in the words of a tree, and of the tree that a store stands for.
-use Rattle.std.proofs.Common.{◌≡◌, ◌∙◌, ℕ, ◌==◌, ◌/◌, ◌&&◌, not, Bool, true, false, cond, List, refl, sym, ap, subst, Option, Some, None}
-use Rattle.std.specs.Prelude.{nat_le, Result, Ok, Err}
+use Rattle.std.proofs.Common.{◌≡◌, ◌∙◌, ℕ, ◌==◌, ◌&&◌, not, Bool, true, false, cond, List, refl, sym, ap, subst, Option, Some, None}
+use Rattle.std.specs.Prelude.{Result, Ok, Err}
 use Rattle.edge_base.specs.commands.Descriptors.{Descriptors, first_empty, is_open}
 use Rattle.edge_base.specs.commands.Paths.{names_in}
 use Rattle.edge_base.specs.commands.Refusals.{◌>>=◌, refuse_if, or_refuse}
@@ -9,8 +9,6 @@ use Rattle.edge_base.specs.declared.node.Head.{Head}
 use Rattle.edge_base.specs.declared.node.NodeType.TheVariants.{File, Directory}
 use Rattle.edge_base.specs.declared.refusal.Refusal.{Refusal}
 use Rattle.edge_base.specs.declared.refusal.Refusal.TheVariants as refusal
-use Rattle.edge_base.specs.layout.Places.{max_blocks_of}
-use Rattle.edge_base.specs.tree.Slots.{slots_in_block}
 use Rattle.edge_store.specs.State.{StoreState}
 use Rattle.edge_model.specs.Names.{has_one_link, is_empty}
 use Rattle.edge_model.specs.Tree.{Tree, is_directory, slots_at}
@@ -20,6 +18,7 @@ use Rattle.edge_volume.specs.Nodes.{IsNodeOf, OnTree, head_at}
 use Rattle.edge_volume.proofs.NodeLaws.{head_of_number}
 use Rattle.edge_walk.specs.Ways.{goes_through}
 use Rattle.edge_walk.proofs.TreeLaws.{directory_of, file_of}
+use Rattle.edge_calls.specs.Makes.{is_behind}
 use Rattle.edge_calls.specs.Renames.{Held, NameIn, Rename, held_at, held_of, name_at, name_for, paths_of, rename_in, rename_of, rename_onto, replaced_by}
 
 -- ---- the two names
@@ -63,11 +62,11 @@ module _ (g : Request) (t : Tree) (ds : Descriptors) (held : Held) (name : NameI
 
   -- nothing, and this is the first empty slot
   pub onto_none : (slot : ℕ) (r : Result ℕ Refusal) → (find_name t name.dir name.name ≡ None) × (slot ≡ first_empty (slots_at t name.dir))
-      → r ≡ (refuse_if (nat_le (max_blocks_of g) (slot / slots_in_block g)) refusal.TooBig >>= λ u. Ok slot)
+      → r ≡ (refuse_if (is_behind g slot) refusal.TooBig >>= λ u. Ok slot)
       → (r >>= λ k. Ok (Some (into k None))) ≡ rename_in g t ds held name
   onto_none slot r there is =
       ap (λ (x : Result ℕ Refusal). x >>= λ k. Ok (Some (into k None))) is
-      ∙ ap (λ (k : ℕ). (refuse_if (nat_le (max_blocks_of g) (k / slots_in_block g)) refusal.TooBig >>= λ u. Ok k) >>= λ k. Ok (Some (into k None))) there.1
+      ∙ ap (λ (k : ℕ). (refuse_if (is_behind g k) refusal.TooBig >>= λ u. Ok k) >>= λ k. Ok (Some (into k None))) there.1
       ∙ ap (rename_onto g t ds held name) (sym there.0)
 
   module _ (found : Found) (there : find_name t name.dir name.name ≡ Some found) where

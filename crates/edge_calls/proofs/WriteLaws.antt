@@ -1,5 +1,5 @@
 -- What write and fill do, at each of their ends.
-use Rattle.std.proofs.Common.{◌≡◌, ◌∙◌, ℕ, ◌+◌, ◌-◌, ◌/◌, ◌<◌, ◌≤◌, nat_lt, Bool, true, false, List, length, map, refl, sym, ap, subst, arith, Some, None}
+use Rattle.std.proofs.Common.{◌≡◌, ◌∙◌, ℕ, ◌+◌, ◌-◌, ◌/◌, ◌<◌, ◌≤◌, nat_lt, Bool, true, false, List, [], length, map, refl, sym, ap, subst, arith, Some, None}
 use Rattle.std.specs.Prelude.{Result, Ok, Err}
 use Rattle.std.proofs.lemmas.List.{length-replicate}
 use Rattle.edge_base.specs.commands.Descriptors.{Descriptor, Descriptors, descriptor_at}
@@ -47,6 +47,7 @@ use Rattle.edge_changes.specs.Edited.{IsEdited}
 use Rattle.edge_changes.proofs.EditLaws.{file_of, had_by}
 use Rattle.edge_changes.proofs.FileLaws.{written_edited}
 use Rattle.edge_room.specs.Room.{NamesEdit, HasRoomWhere}
+use Rattle.edge_room.proofs.NamedLaws.{both_stay, data_stay, none_stay, removes_kept, set_stays, set_there}
 use Rattle.edge_volume.specs.declared.stop.Stop.{Stop}
 use Rattle.edge_volume.specs.declared.stop.Stop.TheVariants.{Refused, Fault}
 use Rattle.edge_volume.specs.Stopped.{fault_of, IfAnswered}
@@ -152,7 +153,8 @@ module _ (command : Asked) (h : ℕ) (new : List ℕ) (w : Writes command h new)
           let low : at / g.block_size ≤ (at + len - 1) / g.block_size = div_mono g.block_size at (at + len - 1) size (omega arith) in
           ap (λ k. has (map (data_at slot.number) (blocks_touched g at k)) p) (sym is_len)
           ∙ sym (bytes_run g slot.number at len (at / g.block_size) ((at + len - 1) / g.block_size + 1 - at / g.block_size) size some within refl (omega arith) p);
-      removes = λ p. refl;
+      removes = removes_kept (request_of old) s.tree (edit_in s).tree (set_stays s.tree s.tree slot.number _ (λ n there. there)) [];
+      stay = both_stay (edit_in s).tree (edit_in s).writes [] (data_stay (edit_in s).tree slot.number _ (set_there s.tree slot.number _)) (none_stay (edit_in s).tree);
       leaves = refl;
     }
 

@@ -2,4 +2,5 @@ pub mod State
 pub mod Writes
 pub mod Sizes
 pub mod Entries
+pub mod Makes
 pub mod Renames

@@ -5,11 +5,13 @@
 mod descriptors;
 mod directory;
 mod handles;
+mod make;
 mod read;
 mod rename;
 mod resize;
 mod session;
 mod status;
+mod vacant;
 mod volume;
 mod write;
 

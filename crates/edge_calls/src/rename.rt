@@ -1,4 +1,4 @@
-ghost use Rattle.std.specs.Prelude.{◌≡◌, ◌≤◌, ◌<◌, ◌^◌, ◌/◌, ◌&&◌, not, nat_le, List, ℕ, Some, Ok, Err, IfOk, IfSome, MatchResult, length};
+ghost use Rattle.std.specs.Prelude.{◌≡◌, ◌≤◌, ◌<◌, ◌^◌, ◌/◌, ◌&&◌, not, List, ℕ, Some, Ok, Err, IfOk, IfSome, MatchResult, length};
 ghost use Rattle.edge_base.specs.commands.Paths.{names_in};
 ghost use Rattle.edge_base.specs.commands.Refusals.{◌>>=◌, refuse_if};
 ghost use Rattle.edge_base.specs.declared.refusal.Refusal.TheVariants as refusal;
@@ -16,8 +16,10 @@ ghost use Rattle.edge_volume.specs.Did.{Did};
 ghost use Rattle.edge_walk.specs.Reached.{IsReached, IsHolder};
 ghost use Rattle.edge_walk.specs.Spots.{AreShort};
 ghost use Rattle.edge_calls.specs.State.{volume_of};
+ghost use Rattle.edge_calls.specs.Makes.{is_behind};
 ghost use Rattle.edge_calls.specs.Renames.{IsReady, held_in, held_of, held_as, name_for, name_as, name_in, number_as, paths_of, rename_as, rename_in, rename_of, replaced_by};
 
+use crate::vacant::is_behind;
 use crate::volume::Volume;
 use edge_base::{Geometry, NodeType, Refusal};
 use edge_dir::{Place, is_empty};
@@ -27,7 +29,6 @@ use edge_model::Answer;
 use edge_names::{Move, NamedNode, move_name};
 use edge_path::{PathNames, two_parts};
 use edge_room::has_room;
-use edge_slots::slots_in_block;
 use edge_space::{Change, SlotAt};
 use edge_store::{Store, StoreFault};
 use edge_volume::{Stop, take_point};
@@ -194,10 +195,9 @@ fn replaced_at<S: Store>(
 
 /// The first empty slot of a directory, for a new name, where the directory may have its block.
 fn new_slot(g: Geometry, slot: u64) -> Result<u64, Refusal>
-    ensures { result ≡ (refuse_if (nat_le (max_blocks_of g) (slot / slots_in_block g))
-        refusal.TooBig >>= λ u. Ok slot) }
+    ensures { result ≡ (refuse_if (is_behind g slot) refusal.TooBig >>= λ u. Ok slot) }
 {
-    if slot / u64::from(slots_in_block(&g)) >= u64::from(g.max_blocks()) {
+    if is_behind(g, slot) {
         return Err(Refusal::TooBig);
     }
     Ok(slot)

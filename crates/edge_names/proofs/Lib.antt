@@ -11,3 +11,4 @@ pub mod NamedAtLaws
 pub mod GoneLaws
 pub mod StoreLaws
 pub mod LinkedLaws
+pub mod SlotRoomLaws

@@ -1,12 +1,13 @@
 -- A node made under a new name. old and new are the store as a call begins and after it.
-use Rattle.std.specs.Prelude.{◌≡◌, ◌+◌, ℕ, true, List, [], Option, Some, Ok}
+use Rattle.std.specs.Prelude.{◌≡◌, ◌≢◌, ◌+◌, ℕ, true, List, [], Option, Some, Ok}
 use Rattle.edge_base.specs.commands.Descriptors.{first_empty}
 use Rattle.edge_base.specs.declared.geometry.Request.{Request}
 use Rattle.edge_base.specs.declared.node.NodeType.{NodeType}
 use Rattle.edge_base.specs.declared.node.NodeType.TheVariants.{File, Directory}
 use Rattle.edge_base.specs.tree.Nodes.{Node, file, directory}
 use Rattle.edge_store.specs.declared.fault.StoreFault.{StoreFault}
-use Rattle.edge_store.specs.State.{StoreState}
+use Rattle.edge_store.specs.Calls.{KeepsWorking}
+use Rattle.edge_store.specs.State.{StoreState, Told, IsNumber}
 use Rattle.edge_model.specs.Named.{NewName, new_name}
 use Rattle.edge_model.specs.Rules.{IsTree}
 use Rattle.edge_model.specs.State.{State}
@@ -35,6 +36,11 @@ pub record IsPlanned (g : Request) (z : State) (kind : NodeType) (d slot : ℕ) 
 abbrev pub MakesNode : StoreState → StoreState → NodeType → ℕ → ℕ → List ℕ → Option ℕ → Type 0
 MakesNode old new kind d slot name found = (z : State) (plan : NewName) → StoreStands old z → IsPlanned old.origin.request z kind d slot name plan
     → (found ≡ Some plan.number) × CarriesOut old new z plan.edit
+
+-- Where no number is told, each one that a node may have has an inode, and nothing has changed.
+abbrev pub MakesNone : StoreState → StoreState → Option ℕ → Type 0
+MakesNone old new None = Told old → ((n : ℕ) → IsNumber old n → old.working.inodes n ≢ None) × KeepsWorking old new
+MakesNone old new (Some n) = Unit {0}
 
 -- and no damage is told where there is room for the slot's block
 abbrev pub NeverMaking : StoreState → NodeType → ℕ → ℕ → List ℕ → Option StoreFault → Type 0

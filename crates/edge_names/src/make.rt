@@ -8,7 +8,7 @@ ghost use Rattle.edge_store.specs.View.{is_head};
 ghost use Rattle.edge_stands.specs.Stands.{head_with};
 ghost use Rattle.edge_volume.specs.Stopped.{fault_in};
 ghost use Rattle.edge_volume.specs.Parts.{EndsBy};
-ghost use Rattle.edge_names.specs.Made.{new_node, MakesNode, NeverMaking};
+ghost use Rattle.edge_names.specs.Made.{new_node, MakesNode, MakesNone, NeverMaking};
 
 use edge_base::{Head, NodeType};
 use edge_dir::place;
@@ -51,6 +51,7 @@ pub fn make_node<S: Store>(
     ensures point { KeepsPoint (S.state s.old) (S.state s.new) }
     ensures undamaged { NeverMaking (S.state s.old) kind d slot name.now (fault_in result) }
     ensures made { IfOk result (MakesNode (S.state s.old) (S.state s.new) kind d slot name.now) }
+    ensures none { IfOk result (MakesNone (S.state s.old) (S.state s.new)) }
 {
     let Some(n) = s.new_inode(first_head(kind, d))? else {
         return Ok(None);

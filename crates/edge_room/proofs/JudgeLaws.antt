@@ -1,9 +1,9 @@
 -- How a change is judged that an edit of a command's plan names.
-use Rattle.std.proofs.Common.{◌≡◌, ◌∙◌, ℕ, ◌+◌, ◌≤◌, ◌&&◌, nat_lt, Bool, true, false, List, [], ◌∷◌, is_some, refl, sym, ap, subst, Option, Some, None}
+use Rattle.std.proofs.Common.{◌≡◌, ◌∙◌, ℕ, ◌+◌, ◌≤◌, ◌==◌, ◌&&◌, not, nat_lt, Bool, true, false, List, [], ◌∷◌, is_some, refl, sym, ap, subst, Option, Some, None}
 use Rattle.std.specs.Prelude.{◌*◌, ◌/◌, ◌<◌, Result, Ok, Err, OnOk, IfOk, IfSome}
-use Rattle.std.specs.List.{range_with_len}
+use Rattle.std.specs.List.{list_any, range_with_len}
 use Rattle.std.proofs.Math.Nat.{mul-div_cancel_left}
-use Rattle.std.proofs.lemmas.Bool.{leb-true, le-leb}
+use Rattle.std.proofs.lemmas.Bool.{leb-true, le-leb, eq-eqb}
 use Rattle.edge_base.specs.commands.Events as event
 use Rattle.edge_base.specs.declared.geometry.Request.{Request}
 use Rattle.edge_base.specs.layout.Places.{IsGeometry}
@@ -11,6 +11,7 @@ use Rattle.edge_base.specs.outside.Below.{Origin}
 use Rattle.edge_base.specs.declared.node.Head.{Head}
 use Rattle.edge_base.specs.declared.node.NodeType.TheVariants.{File, Directory}
 use Rattle.edge_base.specs.tree.Nodes.{Node, file, directory, indices_of}
+use Rattle.edge_base.specs.tree.Positions.{data_at}
 use Rattle.edge_base.specs.tree.Slots as tree
 use Rattle.edge_base.specs.tree.Slots.{slot_blocks}
 use Rattle.edge_store.specs.declared.fault.StoreFault.{StoreFault}
@@ -19,11 +20,12 @@ use Rattle.edge_store.specs.Calls.{Called, KeepsPoint, KeepsWorking, NeverDamage
 use Rattle.edge_store.specs.Fresh.{fresh_count}
 use Rattle.edge_store.specs.State.{StoreState, Told, IsNumber, HasInode}
 use Rattle.edge_store.specs.Told.{MeetsNone}
-use Rattle.edge_store.specs.Placed.{HasNode, IsShaped}
-use Rattle.edge_store.specs.View.{View, free_now, free_after, head_of_inode, whole}
+use Rattle.edge_store.specs.Placed.{HasNode, IsShaped, data_block}
+use Rattle.edge_store.specs.View.{View, free_now, free_after, head_of_inode, entries_of_inode, whole}
 use Rattle.edge_store.proofs.ChangedLaws.{same_truth}
+use Rattle.edge_store.proofs.NodeEffects.{no_blocks}
 use Rattle.edge_shape.specs.Shape.{HasShape}
-use Rattle.edge_count.proofs.JoinLaws.{same_named}
+use Rattle.edge_count.proofs.KeptLaws.{absent_is}
 use Rattle.edge_space.specs.declared.change.Change.{Change}
 use Rattle.edge_space.specs.declared.change.Change.TheVariants.{Bytes, Size, Slots}
 use Rattle.edge_space.specs.declared.change.SlotAt.{SlotAt}
@@ -50,6 +52,7 @@ use Rattle.edge_volume.proofs.ComeLaws.{comes_on, comes_to, comes_ended}
 use Rattle.edge_volume.proofs.LookLaws.{stands_still}
 use Rattle.edge_volume.proofs.PointLaws.{point_comes}
 use Rattle.edge_room.specs.Room.{Plans, HasRoomWhere, blocks_in}
+use Rattle.edge_room.proofs.NamedLaws.{count_named}
 
 -- ---- a point
 
@@ -114,6 +117,23 @@ module _ (st : StoreState) (z : State) (stands : StoreStands st z) where
       let k = node_of n there.1 in
       subst (λ (o : Option Node). HasShape st.origin.request st.working n (indices_at st.origin.request o)) (sym k.1)
       (each_shape st.origin.request st.working z.tree _ stands.views.working_is_view with_all n k.0 k.1 geometry)
+
+  -- the data blocks of each number are those of the tree
+  pub blocks_are : IsGeometry st.origin.request → (n x : ℕ) → not (data_block st.origin.request st.working n x == 0) ≡ list_any (λ k. k == x) (blocks_in st.origin.request z.tree n)
+  blocks_are geometry n x = by (z.tree n) refl
+    where
+      g : Request
+      g = st.origin.request
+
+      twice : (b : Bool) → not (not b) ≡ b
+      twice true = refl
+      twice false = refl
+
+      by : (o : Option Node) → z.tree n ≡ o → not (data_block g st.working n x == 0) ≡ list_any (λ k. k == x) (indices_at g o)
+      by None is = ap not (eq-eqb _ 0 (no_blocks g st.working n 0 (ap entries_of_inode ((stands.views.tree.numbers n).0 is)) (data_at n x) refl))
+      by (Some node) is =
+          ap not (absent_is g st.working n (indices_of g node) (each_shape g st.working z.tree _ stands.views.working_is_view with_all n node is geometry) x)
+          ∙ twice (list_any (λ k. k == x) (indices_of g node))
 
   never_told : {T : Type 0} (r : Result T StoreFault) → NeverDamaged r → IsOfNoDamage (fault_in r)
   never_told (Ok x) never d e = absurd (cc)
@@ -183,7 +203,7 @@ module _ (st : StoreState) (full : Bool) (change : Change) (reserve : ℕ) (z : 
       let g = st.origin.request in
       let left = p.names.left in
       let told = is p.stands.told (blocks_in g z.tree) left (shaped st z p.stands change left geometry there p.names.are_left) in
-      let counted = same_named g st.committed st.working p.edit.writes (writes_of g st.working change left) p.edit.removes (removes_of g st.working change (blocks_in g z.tree) left) p.names.writes p.names.removes in
+      let counted = count_named g st.committed st.working z.tree p.edit.tree (blocks_are st z p.stands geometry) p.edit.writes p.edit.removes (writes_of g st.working change left) (removes_of g st.working change (blocks_in g z.tree) left) p.names.writes p.names.removes p.names.stay in
       let low : fresh_count g st.committed st.working p.edit.writes p.edit.removes + p.edit.reserve ≡ count_of_change st change (blocks_in g z.tree) left + reserve = (λ i. counted i + p.names.leaves i) in
       let by_count = fits_counted g st.committed st.working z command p.done p.edit geometry p.of_bytes p.in_limits p.session.trees p.session.dirty.upwards p.stands.views p.is p.has_edit in
       same_truth b (fits g z p.edit)

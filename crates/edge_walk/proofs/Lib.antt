@@ -4,3 +4,4 @@ pub mod StepLaws
 pub mod WayLaws
 pub mod FindLaws
 pub mod ThroughLaws
+pub mod NameLaws

@@ -3,6 +3,7 @@ use Rattle.std.proofs.Common.{◌≡◌, ◌∙◌, ℕ, ◌+◌, ◌*◌, ◌/�
 use Rattle.std.specs.Prelude.{Result, Ok, Err}
 use Rattle.std.proofs.lemmas.Bool.{false≢true, and_from, le-leb, lt-ltb}
 use Rattle.std.proofs.Math.Nat.{mod-lt, eq-zero-or-pos}
+use Rattle.edge_base.specs.commands.Descriptors.{first_empty}
 use Rattle.edge_base.specs.declared.geometry.Request.{Request}
 use Rattle.edge_base.specs.declared.node.Head.{Head}
 use Rattle.edge_base.specs.declared.node.NodeType.{NodeType}
@@ -19,9 +20,11 @@ use Rattle.edge_store.specs.View.{View, head_of_inode, entries_of_inode}
 use Rattle.edge_store.proofs.ViewLaws.{whole_with_head}
 use Rattle.edge_slots.specs.Slot.{entry_of}
 use Rattle.edge_dir.specs.Bounds.{IsNamedWithin}
-use Rattle.edge_dir.specs.Directory.{IsDirectoryNode, IsFoundIn, NeverOnDirectory, OnSlots}
+use Rattle.edge_dir.specs.Directory.{IsDirectoryNode, IsFoundIn, IsPlaceIn, NeverOnDirectory, OnSlots}
 use Rattle.edge_dir.specs.Looked.{IsFirstNamedAt, SeesName, blocks_below_end}
 use Rattle.edge_dir.specs.declared.look.Found as look
+use Rattle.edge_dir.specs.declared.look.Place.{Place}
+use Rattle.edge_dir.specs.declared.look.Place.TheVariants.{Taken, Free}
 use Rattle.edge_model.specs.Tree.{Tree, slots_at}
 use Rattle.edge_model.specs.Walk.{Found, find_from, find_name, within}
 use Rattle.edge_image.specs.Opens.{head_of_node}
@@ -35,7 +38,7 @@ use Rattle.edge_volume.specs.Parts.{IsOfNoDamage}
 use Rattle.edge_volume.specs.Stopped.{fault_in}
 use Rattle.edge_volume.proofs.NodeLaws.{head_of_number}
 use Rattle.edge_walk.specs.Reached.{IsReached}
-use Rattle.edge_walk.specs.Spots.{found_in}
+use Rattle.edge_walk.specs.Spots.{IsPlaceFor, found_in}
 
 -- ---- a node by its head
 
@@ -116,6 +119,14 @@ found_in_tree st d name found is on z stands tree =
     let rules = to_slotwise st.origin.request r.0 (tree.nodes d (directory r.0 r.1) r.2) in
     found_is (slots_at z.tree d) name found (subst Apart (sym (slots_are z.tree d r.0 r.1 r.2)) rules.apart)
     (on_slots st d is (λ slots. IsFoundIn slots name found) on z stands tree)
+
+-- so is a name's place
+pub place_in_tree : (st : StoreState) (d : ℕ) (name : List ℕ) (place : Place) → IsDirectoryNode st d
+    → OnSlots st d (λ slots. IsPlaceIn slots name place) → OnTree st (λ t. IsPlaceFor t d name place)
+place_in_tree st d name (Taken found) is on z stands tree = found_in_tree st d name (Some found) is on z stands tree
+place_in_tree st d name (Free slot) is on z stands tree = (
+    found_in_tree st d name None is (λ told slots parent node. (on told slots parent node).0) z stands tree,
+    on_slots st d is (λ slots. slot ≡ first_empty slots) (λ told slots parent node. (on told slots parent node).1) z stands tree)
 
 -- ---- numbers that are reached
 

@@ -7,5 +7,5 @@ mod spot;
 mod walk;
 
 pub use head::named_head;
-pub use spot::{Spot, at_spot};
+pub use spot::{Spot, at_spot, place_at};
 pub use walk::{Way, enter, locate, locate_through, reach, spot_at};

@@ -1,13 +1,14 @@
 ghost use Rattle.std.specs.Prelude.{◌≡◌, IfOk, IfSome};
 ghost use Rattle.edge_store.specs.State.{IsLive};
+ghost use Rattle.edge_dir.specs.Bounds.{IsPlaceWithin};
 ghost use Rattle.edge_model.specs.Walk.{at_spot};
 ghost use Rattle.edge_volume.specs.Nodes.{OnTree};
 ghost use Rattle.edge_volume.specs.Parts.{Looks, IsOfNoDamage};
 ghost use Rattle.edge_volume.specs.Stopped.{fault_in};
-ghost use Rattle.edge_walk.specs.Reached.{IsReached};
-ghost use Rattle.edge_walk.specs.Spots.{HasHolder, IsFoundAt, spot_in, found_in};
+ghost use Rattle.edge_walk.specs.Reached.{IsReached, IsHolder};
+ghost use Rattle.edge_walk.specs.Spots.{HasHolder, IsFoundAt, IsPlaceFor, IsPlaceReached, spot_in, found_in};
 
-use edge_dir::{Found, find};
+use edge_dir::{Found, Place, find, look_up};
 use edge_store::{Store, StoreFault};
 
 /// The number of the root.
@@ -46,4 +47,19 @@ pub fn at_spot<S: Store>(s: &mut S, spot: Spot<'_>) -> Result<Option<Found>, Sto
             Ok(found)
         }
     }
+}
+
+/// Where a name stands in directory `d`, or where it would go: the directory is read once.
+pub fn place_at<S: Store>(s: &mut S, d: u32, name: &[u8]) -> Result<Place, StoreFault>
+    requires live { IsLive (S.state s.old) }
+    requires holder { IsHolder (S.state s.old) d }
+    ensures looks { Looks S.Store (fault_in result) s.old s.new }
+    ensures undamaged { OnTree (S.state s.old) (λ t. IsOfNoDamage (fault_in result)) }
+    ensures place { IfOk result (λ place.
+        OnTree (S.state s.old) (λ t. IsPlaceFor t d name.now place)) }
+    ensures within { IfOk result (IsPlaceWithin (S.state s.old).origin.request) }
+    ensures reached { IfOk result (IsPlaceReached (S.state s.new)) }
+{
+    let place = look_up(s, d, name)?;
+    Ok(place)
 }

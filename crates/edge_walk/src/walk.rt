@@ -5,7 +5,7 @@ ghost use Rattle.edge_volume.specs.Nodes.{OnTree};
 ghost use Rattle.edge_volume.specs.Parts.{Looks, IsOfNoDamage};
 ghost use Rattle.edge_volume.specs.Stopped.{fault_of, IfAnswered};
 ghost use Rattle.edge_walk.specs.Reached.{IsReached, IsHolder};
-ghost use Rattle.edge_walk.specs.Spots.{HasHolder, spotted, enters, number_below, number_at};
+ghost use Rattle.edge_walk.specs.Spots.{AreShort, HasHolder, HasShortName, spotted, enters, number_below, number_at};
 ghost use Rattle.edge_walk.specs.Ways.{goes_through, led_to};
 
 use crate::head::named_head;
@@ -64,6 +64,8 @@ pub fn locate<'a, S: Store>(s: &mut S, mut names: PathNames<'a>) -> Result<Spot<
     ensures spot { IfAnswered result (λ r.
         OnTree (S.state s.old) (λ t. spotted r ≡ walk t names.entry)) }
     ensures holder { IfOk result (HasHolder (S.state s.new)) }
+    ensures short { AreShort (S.state s.old).origin.request names.entry
+        → IfOk result (HasShortName (S.state s.old).origin.request) }
 {
     let Some(mut name) = names.next() else {
         return Ok(Spot::Top);
@@ -93,6 +95,8 @@ pub fn locate_through<'a, S: Store>(
     ensures holder { IfOk result (λ way. HasHolder (S.state s.new) way.spot) }
     ensures through { IfOk result (λ way.
         OnTree (S.state s.old) (λ t. way.through ≡ goes_through t names.entry n)) }
+    ensures short { AreShort (S.state s.old).origin.request names.entry
+        → IfOk result (λ way. HasShortName (S.state s.old).origin.request way.spot) }
 {
     let Some(mut name) = names.next() else {
         return Ok(Way {
@@ -123,6 +127,7 @@ pub fn spot_at<'a, S: Store>(s: &mut S, path: &'a [u8]) -> Result<Spot<'a>, Stop
     ensures spot { IfAnswered result (λ r. OnTree (S.state s.old)
         (λ t. spotted r ≡ spot_of (S.state s.old).origin.request t path.now)) }
     ensures holder { IfOk result (HasHolder (S.state s.new)) }
+    ensures short { IfOk result (HasShortName (S.state s.old).origin.request) }
 {
     let name_max = s.geometry().request().name_max;
     match parts(path, name_max) {

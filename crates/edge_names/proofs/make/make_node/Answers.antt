@@ -37,6 +37,12 @@ returns-in_default-clause-made g c z plan stands planned =
     let made = rw c.in_default.is at c.in_ok-n.ensures.made in
     absurd (none_some plan.number (sym (none_free old.origin.request old.working z.tree stands.views.tree (made stands.told).0) ∙ at.free))
 
+pub returns-in_default-clause-none : goal.returns-in_default-clause-none
+returns-in_default-clause-none g c told =
+    let made = rw c.in_default.is at c.in_ok-n.ensures.made in
+    let places = rw c.in_default.is at c.in_ok-n.ensures.places in
+    ((made told).0, record { working = (made told).1; places = places; })
+
 pub returns-in_err-place-clause-undamaged : goal.returns-in_err-place-clause-undamaged
 returns-in_err-place-clause-undamaged g c z plan stands planned room d e =
     let old = g.S.Store.state c.args.s.now in

@@ -1,8 +1,9 @@
-use Rattle.std.proofs.Common.{◌≡◌, None}
+use Rattle.std.proofs.Common.{◌≡◌, ◌≤◌, length, None}
 use Rattle.edge_model.specs.Walk.{walk, walk_from}
 use Rattle.edge_volume.specs.Nodes.{OnTree}
 use Rattle.edge_volume.specs.Parts.{Looks}
 use Rattle.edge_walk.specs.Reached.{IsReached}
+use Rattle.edge_walk.specs.Spots.{AreShort}
 use Rattle.edge_walk.proofs.walk.locate.Given as goal
 
 abbrev pub invariant-loop-next : goal.invariant-loop-next
@@ -12,4 +13,6 @@ invariant-loop-next g l = record {
   looks : Looks g.S.Store None l.fn.s l.s;
   reached : IsReached (g.S.Store.state l.s) l.d;
   walks : OnTree (g.S.Store.state l.fn.s) (λ t. walk t l.fn.names ≡ walk_from t l.d l.name l.next-iterator);
+  short : AreShort (g.S.Store.state l.fn.s).origin.request l.fn.names
+      → (length l.name ≤ (g.S.Store.state l.fn.s).origin.request.name_max) × AreShort (g.S.Store.state l.fn.s).origin.request l.next-iterator;
 }

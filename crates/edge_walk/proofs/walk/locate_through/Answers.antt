@@ -7,6 +7,7 @@ use Rattle.edge_volume.specs.Nodes.{OnTree}
 use Rattle.edge_volume.specs.Parts.{IsOfNoDamage}
 use Rattle.edge_volume.specs.Stopped.{fault_of, IfAnswered}
 use Rattle.edge_volume.proofs.LookLaws.{looks_none, looks_on}
+use Rattle.edge_walk.specs.Spots.{AreShort}
 use Rattle.edge_walk.specs.Ways.{goes_through, led_to}
 use Rattle.edge_walk.proofs.StillLaws.{on_tree_before}
 use Rattle.edge_walk.proofs.ThroughLaws.{or_then, or_else, goes_on, goes_in, stops_way}
@@ -27,6 +28,9 @@ loop-next-init g c = record {
   goes = λ z stands tree.
       ap (λ names. goes_through z.tree names c.args.n)
       (c.in-Some.ensures.steps ∙ ap (λ rest. c.in-Some.name.now ∷ rest) (sym c.into_iter-next-iterator.ensures.into_iter_gives));
+  short = λ all.
+      let both = subst (AreShort (g.S.Store.state c.args.s.now).origin.request) c.in-Some.ensures.steps all in
+      (both.0, subst (AreShort (g.S.Store.state c.args.s.now).origin.request) (sym c.into_iter-next-iterator.ensures.into_iter_gives) both.1);
 }
 
 pub loop-next-preserved : goal.loop-next-preserved
@@ -46,6 +50,7 @@ loop-next-preserved g c =
             | else-through w ↦ or_else c.loop-next.through (c.loop-next.d == c.args.n) c.if-through.through w.if-through.false w.through-is
           ])
           c.in-Some-next.ensures.steps c.in_ok-d.ensures.number;
+      short = λ all. subst (AreShort (g.S.Store.state c.args.s.now).origin.request) c.in-Some-next.ensures.steps (l.short all).1;
     }
 
 pub returns-in_err-d-clause-undamaged : goal.returns-in_err-d-clause-undamaged
@@ -93,3 +98,6 @@ returns-clause-through g c =
       | else-through-2 w ↦ or_else c.loop-next.through (c.loop-next.d == c.args.n) c.if-through-2.result w.if-through-2.false w.result-is
     ])
     c.in-None.ensures.steps.0
+
+pub returns-clause-short : goal.returns-clause-short
+returns-clause-short g c all = (c.loop-next.invariant.short all).0
