@@ -10,7 +10,7 @@ use Rattle.edge_volume.proofs.LookLaws.{looks_none, looks_on}
 use Rattle.edge_walk.specs.Spots.{AreShort}
 use Rattle.edge_walk.specs.Ways.{goes_through, led_to}
 use Rattle.edge_walk.proofs.StillLaws.{on_tree_before}
-use Rattle.edge_walk.proofs.ThroughLaws.{or_then, or_else, goes_on, goes_in, stops_way}
+use Rattle.edge_walk.proofs.ThroughLaws.{first_short, or_then, or_else, goes_on, goes_in, stops_way}
 use Rattle.edge_walk.proofs.TreeLaws.{reached_root}
 use Rattle.edge_walk.proofs.WayLaws.{steps_on, stops_below, ends_in, stops_at_end}
 use Rattle.edge_walk.proofs.walk.locate_through.Goals as goal
@@ -29,8 +29,9 @@ loop-next-init g c = record {
       ap (λ names. goes_through z.tree names c.args.n)
       (c.in-Some.ensures.steps ∙ ap (λ rest. c.in-Some.name.now ∷ rest) (sym c.into_iter-next-iterator.ensures.into_iter_gives));
   short = λ all.
-      let both = subst (AreShort (g.S.Store.state c.args.s.now).origin.request) c.in-Some.ensures.steps all in
-      (both.0, subst (AreShort (g.S.Store.state c.args.s.now).origin.request) (sym c.into_iter-next-iterator.ensures.into_iter_gives) both.1);
+      let r = (g.S.Store.state c.args.s.now).origin.request in
+      let both = first_short r c.in-Some.name.now c.next.new.self (subst (AreShort r) c.in-Some.ensures.steps all) in
+      (both.0, subst (AreShort r) (sym c.into_iter-next-iterator.ensures.into_iter_gives) both.1);
 }
 
 pub loop-next-preserved : goal.loop-next-preserved
@@ -46,11 +47,13 @@ loop-next-preserved g c =
       goes = goes_on g.S.Store c.args.s.now c.loop-next.s l.looks c.loop-next.d c.args.n c.loop-next.name.now c.args.names c.loop-next.next-iterator
           c.loop-next.through l.goes c.in_ok-d.d c.in-Some-next.next.now c.next-in-loop-next.new.self c.if-through.through
           (elim c.if-through.branch [
-            | then-through w ↦ or_then c.loop-next.through (c.loop-next.d == c.args.n) c.if-through.through w.if-through.true w.through-is
+            | then-through w ↦ or_then c.loop-next.through (c.loop-next.d == c.args.n) c.if-through.through w.if-through.true (w.through-is ∙ w.if-through.true)
             | else-through w ↦ or_else c.loop-next.through (c.loop-next.d == c.args.n) c.if-through.through w.if-through.false w.through-is
           ])
           c.in-Some-next.ensures.steps c.in_ok-d.ensures.number;
-      short = λ all. subst (AreShort (g.S.Store.state c.args.s.now).origin.request) c.in-Some-next.ensures.steps (l.short all).1;
+      short = λ all.
+          let r = (g.S.Store.state c.args.s.now).origin.request in
+          first_short r c.in-Some-next.next.now c.next-in-loop-next.new.self (subst (AreShort r) c.in-Some-next.ensures.steps (l.short all).1);
     }
 
 pub returns-in_err-d-clause-undamaged : goal.returns-in_err-d-clause-undamaged
@@ -94,7 +97,7 @@ returns-clause-through g c =
     goes_in g.S.Store c.args.s.now c.loop-next.s c.loop-next.invariant.looks c.loop-next.d c.args.n c.loop-next.name.now c.args.names c.loop-next.next-iterator
     c.loop-next.through c.loop-next.invariant.goes c.if-through-2.result
     (elim c.if-through-2.branch [
-      | then-through-2 w ↦ or_then c.loop-next.through (c.loop-next.d == c.args.n) c.if-through-2.result w.if-through-2.true w.result-is
+      | then-through-2 w ↦ or_then c.loop-next.through (c.loop-next.d == c.args.n) c.if-through-2.result w.if-through-2.true (w.result-is ∙ w.if-through-2.true)
       | else-through-2 w ↦ or_else c.loop-next.through (c.loop-next.d == c.args.n) c.if-through-2.result w.if-through-2.false w.result-is
     ])
     c.in-None.ensures.steps.0
