@@ -15,6 +15,10 @@ pub mod ContentLaws
 pub mod ReadLaws
 pub mod SlotLaws
 pub mod ReadDirLaws
+pub mod VacancyLaws
+pub mod MakeLaws
+pub mod PutLaws
+pub mod MakeDirLaws
 pub mod RenamePlanLaws
 pub mod RenameTreeLaws
 pub mod RenameNamedLaws

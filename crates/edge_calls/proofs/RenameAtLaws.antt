@@ -18,8 +18,7 @@ use Rattle.edge_volume.specs.Nodes.{IsNodeOf, OnTree, head_at}
 use Rattle.edge_volume.proofs.NodeLaws.{head_of_number}
 use Rattle.edge_walk.specs.Ways.{goes_through}
 use Rattle.edge_walk.proofs.TreeLaws.{directory_of, file_of}
-use Rattle.edge_calls.specs.Makes.{is_behind}
-use Rattle.edge_calls.specs.Renames.{Held, NameIn, Rename, held_at, held_of, name_at, name_for, paths_of, rename_in, rename_of, rename_onto, replaced_by}
+use Rattle.edge_calls.specs.Renames.{Held, NameIn, Rename, held_at, held_of, name_at, name_for, paths_of, rename_in, rename_of, rename_onto, replaced_by, slot_for}
 
 -- ---- the two names
 
@@ -62,11 +61,11 @@ module _ (g : Request) (t : Tree) (ds : Descriptors) (held : Held) (name : NameI
 
   -- nothing, and this is the first empty slot
   pub onto_none : (slot : ℕ) (r : Result ℕ Refusal) → (find_name t name.dir name.name ≡ None) × (slot ≡ first_empty (slots_at t name.dir))
-      → r ≡ (refuse_if (is_behind g slot) refusal.TooBig >>= λ u. Ok slot)
+      → r ≡ slot_for g slot
       → (r >>= λ k. Ok (Some (into k None))) ≡ rename_in g t ds held name
   onto_none slot r there is =
       ap (λ (x : Result ℕ Refusal). x >>= λ k. Ok (Some (into k None))) is
-      ∙ ap (λ (k : ℕ). (refuse_if (is_behind g k) refusal.TooBig >>= λ u. Ok k) >>= λ k. Ok (Some (into k None))) there.1
+      ∙ ap (λ (k : ℕ). slot_for g k >>= λ k. Ok (Some (into k None))) there.1
       ∙ ap (rename_onto g t ds held name) (sym there.0)
 
   module _ (found : Found) (there : find_name t name.dir name.name ≡ Some found) where

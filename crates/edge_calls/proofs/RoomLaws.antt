@@ -2,6 +2,7 @@
 use Rattle.std.proofs.Common.{◌≡◌, ◌∙◌, ℕ, ◌+◌, ◌≤◌, Bool, true, false, List, [], refl, sym, ap, subst, arith, Option, Some, None}
 use Rattle.std.specs.Prelude.{Ok, Err}
 use Rattle.edge_base.specs.declared.geometry.Request.{Request}
+use Rattle.edge_base.specs.declared.refusal.Refusal.{Refusal}
 use Rattle.edge_base.specs.declared.refusal.Refusal.TheVariants.{NoSpace}
 use Rattle.edge_base.specs.layout.Places.{IsGeometry}
 use Rattle.edge_base.specs.outside.Below.{Origin}
@@ -223,6 +224,20 @@ module _ (command : Asked) (old mid : VolumeState) (out : List ℕ) (geometry : 
         carry = comes_ended fault mid.store last.store (at_change of_bytes limits s stands) _ _ (never of_bytes limits s stands _ (carrying of_bytes limits s stands)) ended point
             (carrying of_bytes limits s stands).stands;
       })
+
+  -- it would be refused, as it is over no store that stands for a state
+  pub did_never : (e : Refusal) (last : VolumeState) → EndsBy None mid.store last.store → KeepsPoint mid.store last.store
+      → KeepsMask command (Err (Refused e)) old last → KeepsOpen command (Err (Refused e)) old last
+      → ((of_bytes : IsOfBytes command) (limits : IsInLimits command) (s : State) (stands : VolumeStands old s) (z : State) → IsCarrying mid.store s (plans of_bytes limits s stands).edit z → ⊥)
+      → Did command (Err (Refused e)) old last out
+  did_never e last ended point masks opens never = record {
+    ends = ends_on None old.store mid.store last.store mid_ends ended;
+    points = takes_on 1 0 2 old.store mid.store last.store (omega arith) mid_most (takes_none 0 mid.store last.store point.points);
+    mask = masks;
+    opens = opens;
+    buffer = tt;
+    meets = λ of_bytes limits s stands. absurd (never of_bytes limits s stands _ (carrying of_bytes limits s stands));
+  }
 
   module _ (made : StoreState) (view : Told made → IsView made.origin.request made.working) (made_ends : EndsBy None mid.store made) (point : KeepsPoint mid.store made)
       (edits : (of_bytes : IsOfBytes command) (limits : IsInLimits command) (s : State) (stands : VolumeStands old s) (z : State) → IsView mid.store.origin.request made.working

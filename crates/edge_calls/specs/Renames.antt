@@ -20,6 +20,7 @@ use Rattle.edge_walk.specs.Ways.{goes_through}
 use Rattle.edge_names.specs.Moved.{number_of}
 use Rattle.edge_names.specs.declared.moves.Move.{Move}
 use Rattle.edge_names.specs.declared.moves.NamedNode.{NamedNode}
+use Rattle.edge_calls.specs.Makes.{is_behind}
 use Rattle.edge_calls.specs.declared.rename.Named.{Named}
 use Rattle.edge_calls.specs.declared.rename.Renaming.{Renaming}
 use Rattle.edge_calls.specs.declared.rename.Wanted.{Wanted}
@@ -82,6 +83,12 @@ pub record Rename : Type 0 where
   pub name : NameIn
   pub slot : ℕ
   pub replaced : Option ℕ
+
+-- the first empty slot of a directory, where that may have its block
+abbrev pub slot_for : Request → ℕ → Result ℕ Refusal
+slot_for g slot = do
+  _ ← refuse_if (is_behind g slot) refusal.TooBig
+  Ok slot
 
 -- of what is found there; nothing is moved between two names of one node
 abbrev pub rename_onto : Request → Tree → Descriptors → Held → NameIn → Option Found → Result (Option Rename) Refusal

@@ -51,6 +51,7 @@ impl<S: Store> Volume<S> {
         ensures did { (out : List ℕ) → Did (command.make_dir path.now) result
             (volume_of S.Store self.old) (volume_of S.Store self.new) out }
     {
+        let _within_limits = self.store.geometry().request();
         let at = node_place_at(&mut self.store, path)?;
         let put = SlotAt {
             dir: at.d,

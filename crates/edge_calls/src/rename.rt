@@ -1,7 +1,5 @@
 ghost use Rattle.std.specs.Prelude.{◌≡◌, ◌≤◌, ◌<◌, ◌^◌, ◌/◌, ◌&&◌, not, List, ℕ, Some, Ok, Err, IfOk, IfSome, MatchResult, length};
 ghost use Rattle.edge_base.specs.commands.Paths.{names_in};
-ghost use Rattle.edge_base.specs.commands.Refusals.{◌>>=◌, refuse_if};
-ghost use Rattle.edge_base.specs.declared.refusal.Refusal.TheVariants as refusal;
 ghost use Rattle.edge_base.specs.layout.Places.{max_blocks_of};
 ghost use Rattle.edge_base.specs.tree.Slots.{slots_in_block};
 ghost use Rattle.edge_store.specs.State.{IsLive};
@@ -16,8 +14,7 @@ ghost use Rattle.edge_volume.specs.Did.{Did};
 ghost use Rattle.edge_walk.specs.Reached.{IsReached, IsHolder};
 ghost use Rattle.edge_walk.specs.Spots.{AreShort};
 ghost use Rattle.edge_calls.specs.State.{volume_of};
-ghost use Rattle.edge_calls.specs.Makes.{is_behind};
-ghost use Rattle.edge_calls.specs.Renames.{IsReady, held_in, held_of, held_as, name_for, name_as, name_in, number_as, paths_of, rename_as, rename_in, rename_of, replaced_by};
+ghost use Rattle.edge_calls.specs.Renames.{IsReady, held_in, held_of, held_as, name_for, name_as, name_in, number_as, paths_of, rename_as, rename_in, rename_of, replaced_by, slot_for};
 
 use crate::vacant::is_behind;
 use crate::volume::Volume;
@@ -195,7 +192,7 @@ fn replaced_at<S: Store>(
 
 /// The first empty slot of a directory, for a new name, where the directory may have its block.
 fn new_slot(g: Geometry, slot: u64) -> Result<u64, Refusal>
-    ensures { result ≡ (refuse_if (is_behind g slot) refusal.TooBig >>= λ u. Ok slot) }
+    ensures { result ≡ slot_for g slot }
 {
     if is_behind(g, slot) {
         return Err(Refusal::TooBig);

@@ -25,7 +25,7 @@ pub(crate) struct Vacancy<'a> {
 }
 
 /// The slot that the name of a spot takes. What is there already refuses it.
-pub(crate) fn vacancy<'a, S: Store>(s: &mut S, spot: Spot<'a>) -> Result<Vacancy<'a>, Stop>
+pub(crate) fn vacant_at<'a, S: Store>(s: &mut S, spot: Spot<'a>) -> Result<Vacancy<'a>, Stop>
     requires live { IsLive (S.state s.old) }
     requires holder { HasHolder (S.state s.old) spot }
     ensures looks { Looks S.Store (fault_of result) s.old s.new }
@@ -66,7 +66,7 @@ pub(crate) fn node_place<'a, S: Store>(s: &mut S, spot: Spot<'a>) -> Result<Vaca
     ensures short { HasShortName (S.state s.old).origin.request spot.entry
         → IfOk result (λ at. length at.name.now ≤ (S.state s.old).origin.request.name_max) }
 {
-    let at = vacancy(s, spot)?;
+    let at = vacant_at(s, spot)?;
     if s.free_inodes() == 0 {
         return Err(Stop::Refused(Refusal::NoInodes));
     }

@@ -1,11 +1,9 @@
 -- Whether a walk goes through a number. a is the store as the walk began and b the store at its present step, at which it has come to number d
 -- and a name, with these names left, and has told of the numbers before d.
-use Rattle.std.proofs.Common.{◌≡◌, ◌∙◌, ℕ, ◌≤◌, ◌==◌, ◌||◌, not, Bool, true, false, List, [], ◌∷◌, length, refl, sym, ap, Option, Some, None}
+use Rattle.std.proofs.Common.{◌≡◌, ◌∙◌, ℕ, ◌==◌, ◌||◌, not, Bool, true, false, List, [], ◌∷◌, refl, sym, ap, Option, Some, None}
 use Rattle.std.specs.List.{list_any}
-use Rattle.std.proofs.lemmas.List.Elements.{All-head, All-tail}
 use Rattle.std.specs.Prelude.{Ok, Err}
 use Rattle.edge_base.specs.commands.Refusals.{◌>>=◌, refuse_if}
-use Rattle.edge_base.specs.declared.geometry.Request.{Request}
 use Rattle.edge_base.specs.declared.refusal.Refusal.TheVariants.{NotDir}
 use Rattle.edge_store.specs.State.{StoreState}
 use Rattle.edge_store.specs.declared.store.Store.{Ghosts as StoreGhosts}
@@ -16,7 +14,7 @@ use Rattle.edge_volume.specs.declared.stop.Stop.TheVariants.{Refused, Fault}
 use Rattle.edge_volume.specs.Nodes.{OnTree}
 use Rattle.edge_volume.specs.Parts.{Looks}
 use Rattle.edge_volume.specs.Stopped.{IfAnswered}
-use Rattle.edge_walk.specs.Spots.{AreShort, number_below, spotted}
+use Rattle.edge_walk.specs.Spots.{number_below, spotted}
 use Rattle.edge_walk.specs.Ways.{goes_through, led_to}
 use Rattle.edge_walk.specs.declared.spot.Spot.{Spot}
 use Rattle.edge_walk.specs.declared.walk.Way.{Way}
@@ -33,10 +31,6 @@ or_none false = refl
 or_three : (a b c : Bool) → (a || (b || c)) ≡ ((a || b) || c)
 or_three true b c = refl
 or_three false b c = refl
-
--- the first of short names, and the others
-pub first_short : (g : Request) (name : List ℕ) (names : List (List ℕ)) → AreShort g (name ∷ names) → (length name ≤ g.name_max) × AreShort g names
-first_short g name names all = (All-head (λ x. length x ≤ g.name_max) name names all, All-tail (λ x. length x ≤ g.name_max) name names all)
 
 -- an or, by its first part
 pub or_then : (a b r : Bool) → a ≡ true → r ≡ true → r ≡ (a || b)

@@ -8,6 +8,7 @@ use Rattle.edge_volume.specs.Parts.{IsOfNoDamage}
 use Rattle.edge_volume.specs.Stopped.{fault_of, IfAnswered}
 use Rattle.edge_volume.proofs.LookLaws.{looks_none, looks_on}
 use Rattle.edge_walk.specs.Spots.{AreShort, spotted}
+use Rattle.edge_walk.proofs.NameLaws.{first_and_rest}
 use Rattle.edge_walk.proofs.StillLaws.{on_tree_before}
 use Rattle.edge_walk.proofs.TreeLaws.{reached_root}
 use Rattle.edge_walk.proofs.WayLaws.{steps_on, stops_below, ends_in, stops_at_end}
@@ -23,8 +24,9 @@ loop-next-init g c = record {
   walks = λ z stands tree.
       ap (walk z.tree) (c.in-Some.ensures.steps ∙ ap (λ rest. c.in-Some.name.now ∷ rest) (sym c.into_iter-next-iterator.ensures.into_iter_gives));
   short = λ all.
-      let both = subst (AreShort (g.S.Store.state c.args.s.now).origin.request) c.in-Some.ensures.steps all in
-      (both.0, subst (AreShort (g.S.Store.state c.args.s.now).origin.request) (sym c.into_iter-next-iterator.ensures.into_iter_gives) both.1);
+      let r = (g.S.Store.state c.args.s.now).origin.request in
+      let both = first_and_rest r c.in-Some.name.now c.next.new.self (subst (AreShort r) c.in-Some.ensures.steps all) in
+      (both.0, subst (AreShort r) (sym c.into_iter-next-iterator.ensures.into_iter_gives) both.1);
 }
 
 pub loop-next-preserved : goal.loop-next-preserved
@@ -37,7 +39,9 @@ loop-next-preserved g c =
       reached = c.in_ok-d.ensures.reached;
       walks = steps_on g.S.Store c.args.s.now c.loop-next.s l.looks c.loop-next.d c.loop-next.name.now c.args.names c.loop-next.next-iterator l.walks
           c.in_ok-d.d c.in-Some-next.next.now c.next-in-loop-next.new.self c.in-Some-next.ensures.steps c.in_ok-d.ensures.number;
-      short = λ all. subst (AreShort (g.S.Store.state c.args.s.now).origin.request) c.in-Some-next.ensures.steps (l.short all).1;
+      short = λ all.
+          let r = (g.S.Store.state c.args.s.now).origin.request in
+          first_and_rest r c.in-Some-next.next.now c.next-in-loop-next.new.self (subst (AreShort r) c.in-Some-next.ensures.steps (l.short all).1);
     }
 
 pub returns-in_err-d-clause-undamaged : goal.returns-in_err-d-clause-undamaged

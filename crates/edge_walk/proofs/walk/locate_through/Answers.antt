@@ -9,8 +9,9 @@ use Rattle.edge_volume.specs.Stopped.{fault_of, IfAnswered}
 use Rattle.edge_volume.proofs.LookLaws.{looks_none, looks_on}
 use Rattle.edge_walk.specs.Spots.{AreShort}
 use Rattle.edge_walk.specs.Ways.{goes_through, led_to}
+use Rattle.edge_walk.proofs.NameLaws.{first_and_rest}
 use Rattle.edge_walk.proofs.StillLaws.{on_tree_before}
-use Rattle.edge_walk.proofs.ThroughLaws.{first_short, or_then, or_else, goes_on, goes_in, stops_way}
+use Rattle.edge_walk.proofs.ThroughLaws.{or_then, or_else, goes_on, goes_in, stops_way}
 use Rattle.edge_walk.proofs.TreeLaws.{reached_root}
 use Rattle.edge_walk.proofs.WayLaws.{steps_on, stops_below, ends_in, stops_at_end}
 use Rattle.edge_walk.proofs.walk.locate_through.Goals as goal
@@ -30,7 +31,7 @@ loop-next-init g c = record {
       (c.in-Some.ensures.steps ∙ ap (λ rest. c.in-Some.name.now ∷ rest) (sym c.into_iter-next-iterator.ensures.into_iter_gives));
   short = λ all.
       let r = (g.S.Store.state c.args.s.now).origin.request in
-      let both = first_short r c.in-Some.name.now c.next.new.self (subst (AreShort r) c.in-Some.ensures.steps all) in
+      let both = first_and_rest r c.in-Some.name.now c.next.new.self (subst (AreShort r) c.in-Some.ensures.steps all) in
       (both.0, subst (AreShort r) (sym c.into_iter-next-iterator.ensures.into_iter_gives) both.1);
 }
 
@@ -53,7 +54,7 @@ loop-next-preserved g c =
           c.in-Some-next.ensures.steps c.in_ok-d.ensures.number;
       short = λ all.
           let r = (g.S.Store.state c.args.s.now).origin.request in
-          first_short r c.in-Some-next.next.now c.next-in-loop-next.new.self (subst (AreShort r) c.in-Some-next.ensures.steps (l.short all).1);
+          first_and_rest r c.in-Some-next.next.now c.next-in-loop-next.new.self (subst (AreShort r) c.in-Some-next.ensures.steps (l.short all).1);
     }
 
 pub returns-in_err-d-clause-undamaged : goal.returns-in_err-d-clause-undamaged
