@@ -1,24 +1,30 @@
 -- What the parts of a rename find, in the words of a tree, and of the tree that a store stands for.
-use Rattle.std.proofs.Common.{◌≡◌, ◌∙◌, ℕ, ◌==◌, ◌&&◌, not, Bool, true, false, cond, List, refl, sym, ap, subst, Option, Some, None}
+use Rattle.std.proofs.Common.{◌≡◌, ◌∙◌, ℕ, ◌==◌, ◌&&◌, not, Bool, true, false, cond, List, [], ◌∷◌, length, refl, sym, ap, arith, Option, Some, None}
 use Rattle.std.specs.Prelude.{Result, Ok, Err}
+use Rattle.std.proofs.lemmas.Bool.{ne_eqb}
 use Rattle.edge_base.specs.commands.Descriptors.{Descriptors, first_empty, is_open}
 use Rattle.edge_base.specs.commands.Paths.{names_in}
 use Rattle.edge_base.specs.commands.Refusals.{◌>>=◌, refuse_if, or_refuse}
 use Rattle.edge_base.specs.declared.geometry.Request.{Request}
 use Rattle.edge_base.specs.declared.node.Head.{Head}
+use Rattle.edge_base.specs.declared.node.NodeType.{NodeType}
 use Rattle.edge_base.specs.declared.node.NodeType.TheVariants.{File, Directory}
 use Rattle.edge_base.specs.declared.refusal.Refusal.{Refusal}
 use Rattle.edge_base.specs.declared.refusal.Refusal.TheVariants as refusal
+use Rattle.edge_base.specs.tree.Nodes.{Node}
+use Rattle.edge_base.specs.tree.Slots.{Slots}
 use Rattle.edge_store.specs.State.{StoreState}
+use Rattle.edge_dir.specs.Directory.{IsDirectoryNode}
 use Rattle.edge_model.specs.Names.{has_one_link, is_empty}
-use Rattle.edge_model.specs.Tree.{Tree, is_directory, slots_at}
+use Rattle.edge_model.specs.Tree.{Tree, is_directory, links_of, slots_at}
 use Rattle.edge_model.specs.Walk.{Found, Spot, at_spot, find_name, walk}
+use Rattle.edge_image.specs.Opens.{head_of_node}
 use Rattle.edge_steps.proofs.NodeLaws.{is_a_directory, is_a_file}
-use Rattle.edge_volume.specs.Nodes.{IsNodeOf, OnTree, head_at}
+use Rattle.edge_volume.specs.Nodes.{IsNodeOf, OnTree, head_at, head_of_some}
 use Rattle.edge_volume.proofs.NodeLaws.{head_of_number}
 use Rattle.edge_walk.specs.Ways.{goes_through}
 use Rattle.edge_walk.proofs.TreeLaws.{directory_of, file_of}
-use Rattle.edge_calls.specs.Renames.{Held, NameIn, Rename, held_at, held_of, name_at, name_for, paths_of, rename_in, rename_of, rename_onto, replaced_by, slot_for}
+use Rattle.edge_calls.specs.Renames.{Held, NameIn, Rename, held_at, held_of, is_of_directory, name_at, name_for, paths_of, rename_in, rename_of, rename_onto, replaced_by, slot_for, takes}
 
 -- ---- the two names
 
@@ -44,14 +50,38 @@ module _ (t : Tree) (names : List (List ℕ)) where
 
 -- ---- a node that is replaced
 
--- by its tests one after another
-pub replaced_is : (g : Request) (t : Tree) (ds : Descriptors) (n r : ℕ) (a b c d : Bool) → a ≡ is_directory t n → b ≡ is_directory t r
-    → c ≡ (is_directory t r && not (is_empty (slots_at t r))) → d ≡ (has_one_link g t r && is_open ds r)
-    → (refuse_if (a && not b) refusal.NotDir >>= λ _. refuse_if (not a && b) refusal.IsDir >>= λ _. refuse_if c refusal.NotEmpty >>= λ _. refuse_if d refusal.Busy >>= λ _. Ok r)
-    ≡ replaced_by g t ds n r
-replaced_is g t ds n r a b c d one two three four i =
-    refuse_if (one i && not (two i)) refusal.NotDir >>= λ _. refuse_if (not (one i) && two i) refusal.IsDir >>= λ _. refuse_if (three i) refusal.NotEmpty
-    >>= λ _. refuse_if (four i) refusal.Busy >>= λ _. Ok r
+-- by its tests one after another: the kinds, entries, and whether it is open
+module _ (g : Request) (t : Tree) (ds : Descriptors) (n r : ℕ) (kind over : NodeType) (one : is_of_directory kind ≡ is_directory t n) (two : is_of_directory over ≡ is_directory t r) where
+  rest : Bool → Bool → Result ℕ Refusal
+  rest c d = refuse_if c refusal.NotEmpty >>= λ _. refuse_if d refusal.Busy >>= λ _. Ok r
+
+  tests : (a b c d : Bool) → ((refuse_if (a && not b) refusal.NotDir >>= λ _. refuse_if (not a && b) refusal.IsDir) >>= λ _. rest c d)
+      ≡ (refuse_if (a && not b) refusal.NotDir >>= λ _. refuse_if (not a && b) refusal.IsDir >>= λ _. rest c d)
+  tests true true c d = refl
+  tests true false c d = refl
+  tests false true c d = refl
+  tests false false c d = refl
+
+  replaced_is : (c d : Bool) → c ≡ (is_directory t r && not (is_empty (slots_at t r))) → d ≡ (has_one_link g t r && is_open ds r)
+      → (takes kind over >>= λ _. rest c d) ≡ replaced_by g t ds n r
+  replaced_is c d three four =
+      tests (is_of_directory kind) (is_of_directory over) c d
+      ∙ (λ i. refuse_if (one i && not (two i)) refusal.NotDir >>= λ _. refuse_if (not (one i) && two i) refusal.IsDir >>= λ _. rest (three i) (four i))
+
+  pub kinds_refused : (e : Refusal) → Err e ≡ takes kind over → Err e ≡ replaced_by g t ds n r
+  kinds_refused e is = ap (λ (x : Result (Unit {0}) Refusal). x >>= λ _. rest (is_directory t r && not (is_empty (slots_at t r))) (has_one_link g t r && is_open ds r)) is
+      ∙ replaced_is _ _ refl refl
+
+  module _ (is : Ok tt ≡ takes kind over) where
+    pub filled_refused : true ≡ (is_directory t r && not (is_empty (slots_at t r))) → Err refusal.NotEmpty ≡ replaced_by g t ds n r
+    filled_refused filled =
+        ap (λ (x : Result (Unit {0}) Refusal). x >>= λ _. rest true (has_one_link g t r && is_open ds r)) is ∙ replaced_is true _ filled refl
+
+    pub busy_refused : false ≡ (is_directory t r && not (is_empty (slots_at t r))) → true ≡ (has_one_link g t r && is_open ds r) → Err refusal.Busy ≡ replaced_by g t ds n r
+    busy_refused empty busy = ap (λ (x : Result (Unit {0}) Refusal). x >>= λ _. rest false true) is ∙ replaced_is false true empty busy
+
+    pub replaced_so : false ≡ (is_directory t r && not (is_empty (slots_at t r))) → false ≡ (has_one_link g t r && is_open ds r) → Ok r ≡ replaced_by g t ds n r
+    replaced_so empty free = ap (λ (x : Result (Unit {0}) Refusal). x >>= λ _. rest false false) is ∙ replaced_is false false empty free
 
 -- ---- what is at the new name
 
@@ -110,11 +140,28 @@ module _ (g : Request) (t : Tree) (ds : Descriptors) (path to : List ℕ) where
 pub head_in_tree : (st : StoreState) (n : ℕ) (head : Head) → IsNodeOf st n head → OnTree st (λ t. Some head ≡ head_at st.origin.request t n)
 head_in_tree st n head node z stands tree = sym (node.is_head stands.told) ∙ head_of_number st.origin.request st.working z.tree stands.views.tree n
 
-module _ (st : StoreState) (n : ℕ) (head : Head) (node : IsNodeOf st n head) where
-  pub directory_in : head.kind ≡ Directory → OnTree st (λ t. is_directory t n ≡ true)
-  directory_in kind z stands tree =
-      let r = directory_of st.origin.request z.tree n head (head_in_tree st n head node z stands tree) kind in is_a_directory z.tree n r.0 r.1 r.2
+-- so is its kind
+pub kind_in_tree : (st : StoreState) (n : ℕ) (head : Head) → IsNodeOf st n head → OnTree st (λ t. is_of_directory head.kind ≡ is_directory t n)
+kind_in_tree st n head node z stands tree = by head.kind refl
+  where
+    by : (kind : NodeType) → head.kind ≡ kind → is_of_directory kind ≡ is_directory z.tree n
+    by Directory kind = let r = directory_of st.origin.request z.tree n head (head_in_tree st n head node z stands tree) kind in sym (is_a_directory z.tree n r.0 r.1 r.2)
+    by File kind = let r = file_of st.origin.request z.tree n head (head_in_tree st n head node z stands tree) kind in sym (is_a_file z.tree n r.0 r.1 r.2)
 
-  pub file_in : head.kind ≡ File → OnTree st (λ t. is_directory t n ≡ false)
-  file_in kind z stands tree =
-      let r = file_of st.origin.request z.tree n head (head_in_tree st n head node z stands tree) kind in is_a_file z.tree n r.0 r.1 r.2
+-- and whether it has one link
+links_by : (g : Request) (t : Tree) (n : ℕ) (head : Head) (o : Option Node) → Some head ≡ head_of_some g t n o → head.links ≡ links_of g t n
+links_by g t n head None is = absurd (cc)
+links_by g t n head (Some node) is = ap (λ (h : Head). h.links) (let e : head ≡ head_of_node g t n node = cc in e)
+
+pub busy_in_tree : (st : StoreState) (n : ℕ) (head : Head) (ds : Descriptors) → IsNodeOf st n head
+    → OnTree st (λ t. ((head.links == 1) && is_open ds n) ≡ (has_one_link st.origin.request t n && is_open ds n))
+busy_in_tree st n head ds node z stands tree =
+    ap (λ (k : ℕ). (k == 1) && is_open ds n) (links_by st.origin.request z.tree n head (z.tree n) (head_in_tree st n head node z stands tree))
+
+-- a directory that is told to have no slots
+pub empty_is : (slots : Slots) → (length slots == 0) ≡ is_empty slots
+empty_is [] = refl
+empty_is (slot ∷ slots) = ne_eqb (length (slot ∷ slots)) 0 (λ none. absurd (omega (arith, none)))
+
+pub is_node_directory : (st : StoreState) (n : ℕ) (head : Head) → IsNodeOf st n head → head.kind ≡ Directory → IsDirectoryNode st n
+is_node_directory st n head node kind told = (head, node.is_head told, kind)

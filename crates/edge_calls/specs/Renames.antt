@@ -1,9 +1,11 @@
 -- Moving a name: what is moved and where to, or why it is refused, but for room. ds are the descriptors.
-use Rattle.std.specs.Prelude.{◌≡◌, ◌≤◌, ◌==◌, ◌&&◌, ◌||◌, not, ℕ, if◌then◌else◌, List, [], length, IfSome, Option, Some, None, Result, Ok, Err}
+use Rattle.std.specs.Prelude.{◌≡◌, ◌≤◌, ◌==◌, ◌&&◌, ◌||◌, not, ℕ, Bool, true, false, if◌then◌else◌, List, [], length, IfSome, Option, Some, None, Result, Ok, Err}
 use Rattle.edge_base.specs.commands.Descriptors.{Descriptors, is_open}
 use Rattle.edge_base.specs.commands.Paths.{names_in, two_paths}
 use Rattle.edge_base.specs.commands.Refusals.{◌>>=◌, refuse_if, or_refuse}
 use Rattle.edge_base.specs.declared.geometry.Request.{Request}
+use Rattle.edge_base.specs.declared.node.NodeType.{NodeType}
+use Rattle.edge_base.specs.declared.node.NodeType.TheVariants.{File, Directory}
 use Rattle.edge_base.specs.declared.refusal.Refusal.{Refusal}
 use Rattle.edge_base.specs.declared.refusal.Refusal.TheVariants as refusal
 use Rattle.edge_store.specs.State.{StoreState}
@@ -67,6 +69,16 @@ name_for t names n = do
   name_at spot
 
 -- ---- what is there already
+
+abbrev pub is_of_directory : NodeType → Bool
+is_of_directory File = false
+is_of_directory Directory = true
+
+-- a node of this kind may take a name from one of that kind
+abbrev pub takes : NodeType → NodeType → Result (Unit {0}) Refusal
+takes kind over = do
+  _ ← refuse_if (is_of_directory kind && not (is_of_directory over)) refusal.NotDir
+  refuse_if (not (is_of_directory kind) && is_of_directory over) refusal.IsDir
 
 -- node n may take the name from node r
 abbrev pub replaced_by : Request → Tree → Descriptors → ℕ → ℕ → Result ℕ Refusal

@@ -1,4 +1,5 @@
-ghost use Rattle.std.specs.Prelude.{◌≡◌, ◌≤◌, ◌<◌, ◌^◌, ◌/◌, ◌&&◌, not, List, ℕ, Some, Ok, Err, IfOk, IfSome, MatchResult, length};
+ghost use Rattle.std.specs.Prelude.{◌≡◌, ◌≤◌, ◌<◌, ◌^◌, ◌/◌, ◌==◌, ◌&&◌, not, List, ℕ, Some, Ok, Err, IfOk, IfSome, MatchResult, length};
+ghost use Rattle.edge_base.specs.commands.Descriptors.{is_open};
 ghost use Rattle.edge_base.specs.commands.Paths.{names_in};
 ghost use Rattle.edge_base.specs.layout.Places.{max_blocks_of};
 ghost use Rattle.edge_base.specs.tree.Slots.{slots_in_block};
@@ -14,7 +15,7 @@ ghost use Rattle.edge_volume.specs.Did.{Did};
 ghost use Rattle.edge_walk.specs.Reached.{IsReached, IsHolder};
 ghost use Rattle.edge_walk.specs.Spots.{AreShort};
 ghost use Rattle.edge_calls.specs.State.{volume_of};
-ghost use Rattle.edge_calls.specs.Renames.{IsReady, held_in, held_of, held_as, name_for, name_as, name_in, number_as, paths_of, rename_as, rename_in, rename_of, replaced_by, slot_for};
+ghost use Rattle.edge_calls.specs.Renames.{IsReady, held_in, held_of, held_as, is_of_directory, name_for, name_as, name_in, number_as, paths_of, rename_as, rename_in, rename_of, replaced_by, slot_for, takes};
 
 use crate::vacant::is_behind;
 use crate::volume::Volume;
@@ -112,6 +113,16 @@ fn named_at<S: Store>(s: &mut S, names: PathNames<'_>) -> Result<Named, Stop>
     Ok(Named { at, node })
 }
 
+/// Whether a node of this kind is a directory on the way.
+fn is_in_way(kind: NodeType, through: bool) -> bool
+    ensures { result ≡ (is_of_directory kind && through) }
+{
+    match kind {
+        NodeType::Directory => through,
+        NodeType::File => false,
+    }
+}
+
 /// The name that a node is to have. It is refused where the node is a directory and the way goes
 /// through it.
 fn wanted_at<'a, S: Store>(
@@ -131,13 +142,32 @@ fn wanted_at<'a, S: Store>(
         length wanted.name.now ≤ (S.state s.old).origin.request.name_max) }
 {
     let way = locate_through(s, names, node.number)?;
-    if node.head.kind == NodeType::Directory && way.through {
+    if is_in_way(node.head.kind, way.through) {
         return Err(Stop::Refused(Refusal::Invalid));
     }
     match way.spot {
         Spot::Top => Err(Stop::Refused(Refusal::Busy)),
         Spot::Within { d, name } => Ok(Wanted { dir: d, name }),
     }
+}
+
+/// A directory takes the name of a directory alone, and a file that of a file.
+fn takes(kind: NodeType, over: NodeType) -> Result<(), Refusal>
+    ensures { result ≡ takes kind over }
+{
+    match (kind, over) {
+        (NodeType::Directory, NodeType::File) => Err(Refusal::NotDir),
+        (NodeType::File, NodeType::Directory) => Err(Refusal::IsDir),
+        (NodeType::File, NodeType::File) => Ok(()),
+        (NodeType::Directory, NodeType::Directory) => Ok(()),
+    }
+}
+
+/// Whether a node is open that would go with its name.
+fn is_busy(handles: &Handles, node: NamedNode) -> bool
+    ensures { result ≡ ((node.head.links == 1) && is_open handles.now node.number) }
+{
+    node.head.links == 1 && handles.holds(node.number)
 }
 
 /// Whether a node is a directory with entries.
@@ -176,15 +206,11 @@ fn replaced_at<S: Store>(
 {
     let head = named_head(s, number)?;
     let there = NamedNode { number, head };
-    match (node.head.kind, head.kind) {
-        (NodeType::Directory, NodeType::File) => return Err(Stop::Refused(Refusal::NotDir)),
-        (NodeType::File, NodeType::Directory) => return Err(Stop::Refused(Refusal::IsDir)),
-        _ => {}
-    }
+    takes(node.head.kind, head.kind)?;
     if has_entries(s, there)? {
         return Err(Stop::Refused(Refusal::NotEmpty));
     }
-    if head.links == 1 && handles.holds(number) {
+    if is_busy(handles, there) {
         return Err(Stop::Refused(Refusal::Busy));
     }
     Ok(there)
@@ -208,8 +234,8 @@ fn moved_into<'a>(
     replaced: Option<NamedNode>,
 ) -> Renaming<'a>
     ensures change { result.change ≡ record { node = named.node; from = named.at;
-        to = record { dir = wanted.dir; slot = slot }; replaced = replaced } }
-    ensures name { result.name ≡ wanted.name }
+        to = record { dir = wanted.entry.dir; slot = slot }; replaced = replaced } }
+    ensures name { result.name ≡ wanted.entry.name }
 {
     let to = SlotAt {
         dir: wanted.dir,
@@ -247,7 +273,7 @@ fn renaming_to<'a, S: Store>(
     ensures ready { IfOk result (λ r. IfSome r (IsReady (S.state s.new))) }
     ensures renaming { IfAnswered result (λ r. OnTree (S.state s.old) (λ t. rename_as r
         ≡ rename_in (S.state s.old).origin.request t handles.now (held_in named)
-        (name_in wanted))) }
+        (name_in wanted.entry))) }
 {
     match place_at(s, wanted.dir, wanted.name)? {
         Place::Free(slot) => {
