@@ -25,3 +25,4 @@ pub mod RenameNamedLaws
 pub mod RenameMayLaws
 pub mod RenameLaws
 pub mod RenameAtLaws
+pub mod RenameReadyLaws

@@ -52,7 +52,7 @@ module _ (t : Tree) (names : List (List ℕ)) where
 
 -- by its tests one after another: the kinds, entries, and whether it is open
 module _ (g : Request) (t : Tree) (ds : Descriptors) (n r : ℕ) (kind over : NodeType) (one : is_of_directory kind ≡ is_directory t n) (two : is_of_directory over ≡ is_directory t r) where
-  rest : Bool → Bool → Result ℕ Refusal
+  abbrev rest : Bool → Bool → Result ℕ Refusal
   rest c d = refuse_if c refusal.NotEmpty >>= λ _. refuse_if d refusal.Busy >>= λ _. Ok r
 
   tests : (a b c d : Bool) → ((refuse_if (a && not b) refusal.NotDir >>= λ _. refuse_if (not a && b) refusal.IsDir) >>= λ _. rest c d)
@@ -147,6 +147,10 @@ kind_in_tree st n head node z stands tree = by head.kind refl
     by : (kind : NodeType) → head.kind ≡ kind → is_of_directory kind ≡ is_directory z.tree n
     by Directory kind = let r = directory_of st.origin.request z.tree n head (head_in_tree st n head node z stands tree) kind in sym (is_a_directory z.tree n r.0 r.1 r.2)
     by File kind = let r = file_of st.origin.request z.tree n head (head_in_tree st n head node z stands tree) kind in sym (is_a_file z.tree n r.0 r.1 r.2)
+
+pub in_way : (st : StoreState) (n : ℕ) (head : Head) (names : List (List ℕ)) (through : Bool) → IsNodeOf st n head → OnTree st (λ t. through ≡ goes_through t names n)
+    → OnTree st (λ t. (is_of_directory head.kind && through) ≡ (is_directory t n && goes_through t names n))
+in_way st n head names through node goes z stands tree i = kind_in_tree st n head node z stands tree i && goes z stands tree i
 
 -- and whether it has one link
 links_by : (g : Request) (t : Tree) (n : ℕ) (head : Head) (o : Option Node) → Some head ≡ head_of_some g t n o → head.links ≡ links_of g t n

@@ -7,7 +7,7 @@ use Rattle.edge_walk.proofs.NameLaws.{two_are_short}
 use Rattle.edge_calls.proofs.rename.both_names.Goals as goal
 
 pub returns-clause-short : goal.returns-clause-short
-returns-clause-short g c =
+returns-clause-short c =
     let told = c.in_ok-both.ensures in
     subst (AreShort c.args.g) (sym told.names.1)
     (two_are_short c.args.g c.args.path.now c.args.to.now
