@@ -1,5 +1,5 @@
 -- What the parts of a rename find, in the words of a tree, and of the tree that a store stands for.
-use Rattle.std.proofs.Common.{◌≡◌, ◌∙◌, ℕ, ◌==◌, ◌&&◌, not, Bool, true, false, cond, List, [], ◌∷◌, length, refl, sym, ap, arith, Option, Some, None}
+use Rattle.std.proofs.Common.{◌≡◌, ◌∙◌, ℕ, ◌==◌, ◌&&◌, not, Bool, true, false, cond, List, [], ◌∷◌, length, refl, sym, ap, subst, arith, Option, Some, None}
 use Rattle.std.specs.Prelude.{Result, Ok, Err}
 use Rattle.std.proofs.lemmas.Bool.{ne_eqb}
 use Rattle.edge_base.specs.commands.Descriptors.{Descriptors, first_empty, is_open}
@@ -13,7 +13,9 @@ use Rattle.edge_base.specs.declared.refusal.Refusal.{Refusal}
 use Rattle.edge_base.specs.declared.refusal.Refusal.TheVariants as refusal
 use Rattle.edge_base.specs.tree.Nodes.{Node}
 use Rattle.edge_base.specs.tree.Slots.{Slots}
+use Rattle.edge_base.specs.outside.Below.{Origin}
 use Rattle.edge_store.specs.State.{StoreState}
+use Rattle.edge_store.specs.declared.store.Store.{Ghosts as StoreGhosts}
 use Rattle.edge_dir.specs.Directory.{IsDirectoryNode}
 use Rattle.edge_model.specs.Names.{has_one_link, is_empty}
 use Rattle.edge_model.specs.Tree.{Tree, is_directory, links_of, slots_at}
@@ -21,10 +23,17 @@ use Rattle.edge_model.specs.Walk.{Found, Spot, at_spot, find_name, walk}
 use Rattle.edge_image.specs.Opens.{head_of_node}
 use Rattle.edge_steps.proofs.NodeLaws.{is_a_directory, is_a_file}
 use Rattle.edge_volume.specs.Nodes.{IsNodeOf, OnTree, head_at, head_of_some}
+use Rattle.edge_volume.specs.declared.stop.Stop.{Stop}
+use Rattle.edge_volume.specs.declared.stop.Stop.TheVariants.{Refused, Fault}
+use Rattle.edge_volume.specs.Parts.{Looks}
+use Rattle.edge_volume.specs.Stopped.{IfAnswered}
 use Rattle.edge_volume.proofs.NodeLaws.{head_of_number}
 use Rattle.edge_walk.specs.Ways.{goes_through}
+use Rattle.edge_walk.proofs.StillLaws.{on_tree_before}
 use Rattle.edge_walk.proofs.TreeLaws.{directory_of, file_of}
-use Rattle.edge_calls.specs.Renames.{Held, NameIn, Rename, held_at, held_of, is_of_directory, name_at, name_for, paths_of, rename_in, rename_of, rename_onto, replaced_by, slot_for, takes}
+use Rattle.edge_names.specs.declared.moves.NamedNode.{NamedNode}
+use Rattle.edge_calls.specs.declared.rename.Renaming.{Renaming}
+use Rattle.edge_calls.specs.Renames.{Held, NameIn, Rename, held_at, held_of, is_of_directory, name_at, name_for, number_as, paths_of, rename_as, rename_in, rename_of, rename_onto, replaced_by, slot_for, takes}
 
 -- ---- the two names
 
@@ -169,3 +178,27 @@ empty_is (slot ∷ slots) = ne_eqb (length (slot ∷ slots)) 0 (λ none. absurd 
 
 pub is_node_directory : (st : StoreState) (n : ℕ) (head : Head) → IsNodeOf st n head → head.kind ≡ Directory → IsDirectoryNode st n
 is_node_directory st n head node kind told = (head, node.is_head told, kind)
+
+-- ---- onto another node, found by a store later on
+
+module _ {A : Type 0} (S : StoreGhosts A) (a b : A) (looks : Looks S None a b) (ds : Descriptors) (held : Held) (name : NameIn) (found : Found)
+    (there : OnTree (S.state a) (λ t. find_name t name.dir name.name ≡ Some found)) (other : (found.number == held.number) ≡ false) where
+  abbrev IsReplaced : Result ℕ Refusal → Type 0
+  IsReplaced r = OnTree (S.state b) (λ t. r ≡ replaced_by (S.state b).origin.request t ds held.number found.number)
+
+  onto_at : (r : Result ℕ Refusal) → IsReplaced r
+      → OnTree (S.state a) (λ t. (r >>= λ k. Ok (Some (let x : Rename = record { held = held; name = name; slot = found.slot; replaced = Some k } in x)))
+      ≡ rename_in (S.state a).origin.request t ds held name)
+  onto_at r is z stands tree =
+      onto_other (S.state a).origin.request z.tree ds held name found (there z stands tree) other r
+      (subst (λ (o : Origin). r ≡ replaced_by o.request z.tree ds held.number found.number) looks.ends.origin
+      (on_tree_before S a b looks (λ t. r ≡ replaced_by (S.state b).origin.request t ds held.number found.number) is z stands tree))
+
+  pub onto_stopped : (stop : Stop) → IfAnswered {T = NamedNode} (Err stop) (λ r. IsReplaced (number_as r))
+      → IfAnswered {T = Option Renaming} (Err stop) (λ r. OnTree (S.state a) (λ t. rename_as r ≡ rename_in (S.state a).origin.request t ds held name))
+  onto_stopped (Refused e) is = onto_at (Err e) is
+  onto_stopped (Fault fault) is = tt
+
+  pub onto_moved : (k : ℕ) (m : Rename) → m ≡ record { held = held; name = name; slot = found.slot; replaced = Some k } → IsReplaced (Ok k)
+      → OnTree (S.state a) (λ t. Ok (Some m) ≡ rename_in (S.state a).origin.request t ds held name)
+  onto_moved k m same is z stands tree = ap (λ (x : Rename). Ok (Some x)) same ∙ onto_at (Ok k) is z stands tree

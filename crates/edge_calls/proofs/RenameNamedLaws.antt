@@ -1,6 +1,6 @@
 -- A name moved from slot sf of directory df to slot st of directory dt, as a change of slots: how many blocks are left of the directory that
 -- loses it, and what is removed.
-use Rattle.std.proofs.Common.{◌≡◌, ◌≢◌, ◌∙◌, ℕ, ◌+◌, ◌-◌, ◌/◌, ◌==◌, ◌<◌, ◌≤◌, ◌&&◌, ◌||◌, Bool, true, false, cond, max, List, [], ◌∷◌, ◌++◌, filter, length, map, is_some, inl, inr, refl, sym, ap, subst, arith, Option, Some, None}
+use Rattle.std.proofs.Common.{◌≡◌, ◌≢◌, ◌∙◌, ℕ, ◌+◌, ◌-◌, ◌/◌, ◌==◌, ◌<◌, ◌≤◌, ◌&&◌, ◌||◌, Bool, true, false, cond, max, List, [], ◌∷◌, ◌++◌, filter, length, map, is_some, slice_set, inl, inr, refl, sym, ap, subst, arith, Option, Some, None}
 use Rattle.std.specs.Prelude.{nat_le, nat_lt}
 use Rattle.std.specs.List.{list_any, range_with_len}
 use Rattle.std.specs.Cmp.{both_ways}
@@ -128,7 +128,7 @@ module _ (g : Request) (v : View) (t : Tree) (df sf dt st n : ℕ) (name : List 
     is_held = (λ same. (entry, here same), elsewhere);
     apart = apart;
     after = without_slot (slots_at held df) sf;
-    after_trimmed = trimmed_twice _;
+    after_trimmed = trimmed_twice (slice_set (slots_at held df) sf None);
     is_cleared = (cleared_here (slots_at held df) sf, λ j other. cleared_elsewhere (slots_at held df) sf j other);
     left_are = refl;
   }

@@ -49,7 +49,7 @@ module _ (g : Request) (s : State) where
     over there = by (is_directory s.tree found.number && not (is_directory s.tree there.number)) (not (is_directory s.tree found.number) && is_directory s.tree there.number)
         (is_directory s.tree there.number && not (is_empty (slots_at s.tree there.number))) (has_one_link g s.tree there.number && is_open ds there.number)
       where
-        abbrev move : Rename
+        move : Rename
         move = record { held = held; name = name; slot = there.slot; replaced = Some there.number }
 
         by : (a b c d : Bool)
@@ -136,11 +136,11 @@ module _ (g : Request) (s : State) where
     unfolding plan_rename
     by_rename = by_paths (two_paths g.name_max path to)
       where
-        abbrev walks : Result Plan Refusal
+        walks : Result Plan Refusal
         walks = walk s.tree (names_in path) >>= λ from. or_refuse (at_spot s.tree from) refusal.NoEntry >>= λ found. walk s.tree (names_in to)
             >>= λ spot. refuse_if (is_directory s.tree found.number && is_below s.tree to found.number) refusal.Invalid >>= λ _. rename_to g s from found spot (at_spot s.tree spot)
 
-        abbrev moves : Result (Option Rename) Refusal
+        moves : Result (Option Rename) Refusal
         moves = held_of s.tree (names_in path) >>= λ h. name_for s.tree (names_in to) h.number >>= λ n. rename_in g s.tree ds h n
 
         by_top : (b : Bool) → (is_top path || is_top to) ≡ b

@@ -23,7 +23,7 @@ use Rattle.edge_walk.specs.Ways.{goes_through}
 pub names_another : (g : Request) (t : Tree) → IsTree g t → (d i : ℕ) (e : Entry) → slot_at t d i ≡ Some e → d ≢ e.number
 names_another g t tree d i e is same = reach t (λ x. x ≡ d → ⊥) over (λ (two : 2 ≡ d). named.1 (sym two)) d (tree.reached d named.0) refl
   where
-    abbrev named : (is_some (t d) ≡ true) × (d ≢ 2)
+    named : (is_some (t d) ≡ true) × (d ≢ 2)
     named = tree.named d d (slot_names t d i d e is (sym same))
 
     range : (2 ≤ d) × (d < 2 + g.inodes)
