@@ -202,3 +202,21 @@ module _ {A : Type 0} (S : StoreGhosts A) (a b : A) (looks : Looks S None a b) (
   pub onto_moved : (k : ℕ) (m : Rename) → m ≡ record { held = held; name = name; slot = found.slot; replaced = Some k } → IsReplaced (Ok k)
       → OnTree (S.state a) (λ t. Ok (Some m) ≡ rename_in (S.state a).origin.request t ds held name)
   onto_moved k m same is z stands tree = ap (λ (x : Rename). Ok (Some x)) same ∙ onto_at (Ok k) is z stands tree
+
+-- ---- a move found by a store later on
+
+module _ {A : Type 0} (S : StoreGhosts A) (a b : A) (looks : Looks S None a b) (ds : Descriptors) (path to : List ℕ) (held : Held) (name : NameIn)
+    (paths : paths_of (S.state a).origin.request path to ≡ Ok tt) (there : OnTree (S.state a) (λ t. Ok held ≡ held_of t (names_in path)))
+    (named : OnTree (S.state a) (λ t. Ok name ≡ name_for t (names_in to) held.number)) where
+  found_so : (x : Result (Option Renaming) Refusal) → OnTree (S.state b) (λ t. rename_as x ≡ rename_in (S.state b).origin.request t ds held name)
+      → OnTree (S.state a) (λ t. rename_as x ≡ rename_of (S.state a).origin.request t ds path to)
+  found_so x is z stands tree =
+      by_place (S.state a).origin.request z.tree ds path to paths held name (there z stands tree) (named z stands tree) (rename_as x)
+      (subst (λ (o : Origin). rename_as x ≡ rename_in o.request z.tree ds held name) looks.ends.origin
+      (on_tree_before S a b looks (λ t. rename_as x ≡ rename_in (S.state b).origin.request t ds held name) is z stands tree))
+
+  pub all_found : (r : Result (Option Renaming) Stop) → IfAnswered r (λ x. OnTree (S.state b) (λ t. rename_as x ≡ rename_in (S.state b).origin.request t ds held name))
+      → IfAnswered r (λ x. OnTree (S.state a) (λ t. rename_as x ≡ rename_of (S.state a).origin.request t ds path to))
+  all_found (Ok x) is = found_so (Ok x) is
+  all_found (Err (Refused e)) is = found_so (Err e) is
+  all_found (Err (Fault fault)) is = tt

@@ -118,7 +118,7 @@ module _ (path to : List ℕ) (old : VolumeState) (out : List ℕ) where
     is_renaming : (s : State) → VolumeStands old s → IsRenaming (request_of old) s.tree path to move
     is_renaming s stands = facts (request_of old) s.tree old.descriptors path to move (sym (told s stands.store stands.session.trees.tree))
 
-    names_in : (s : State) → VolumeStands old s → NamesEdit (request_of old) old.store.working s.tree change 3 (edit_in s)
+    pub names_in : (s : State) → VolumeStands old s → NamesEdit (request_of old) old.store.working s.tree change 3 (edit_in s)
     names_in s stands =
         let g = request_of old in
         let tree = stands.session.trees.tree in

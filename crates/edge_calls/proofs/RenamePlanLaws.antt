@@ -216,7 +216,8 @@ module _ (g : Request) (t : Tree) (ds : Descriptors) where
       let a = after_part (new_slot g t name.dir) (λ slot. Ok (Some (let x : Rename = record { held = held; name = name; slot = slot; replaced = None } in x))) (Some r) is in
       by a.0 a.1 r a.2
     where
-      by : (slot : ℕ) → new_slot g t name.dir ≡ Ok slot → (r : Rename) → Ok (Some (let x : Rename = record { held = held; name = name; slot = slot; replaced = None } in x)) ≡ Ok (Some r)
+      by : (slot : ℕ) → new_slot g t name.dir ≡ Ok slot → (r : Rename)
+          → ◌≡◌ {A = Result (Option Rename) Refusal} (Ok (Some (let x : Rename = record { held = held; name = name; slot = slot; replaced = None } in x))) (Ok (Some r))
           → (held ≡ r.held) × (name ≡ r.name) × IsPlacedAt g t r r.replaced
       by slot room r e =
           let x : Rename = record { held = held; name = name; slot = slot; replaced = None } in

@@ -1,15 +1,16 @@
 -- What a name that is moved is in a tree: no directory names itself, and the node is not the directory of its new name.
 use Rattle.std.proofs.Common.{◌≡◌, ◌≢◌, ◌∙◌, ℕ, ◌+◌, ◌==◌, ◌&&◌, ◌<◌, ◌≤◌, not, true, false, List, [], ◌∷◌, inl, inr, refl, sym, ap, subst, arith, eq-eqb, is_some, Some, None}
 use Rattle.std.proofs.lemmas.Bool.{false≢true}
-use Rattle.std.specs.Prelude.{Ok}
+use Rattle.std.specs.Prelude.{Result, Ok}
 use Rattle.edge_base.specs.commands.Refusals.{◌>>=◌}
 use Rattle.edge_base.specs.declared.geometry.Request.{Request}
+use Rattle.edge_base.specs.declared.refusal.Refusal.{Refusal}
 use Rattle.edge_base.specs.declared.refusal.Refusal.TheVariants as refusal
 use Rattle.edge_base.specs.tree.Slots.{Entry}
 use Rattle.edge_model.specs.Named.{cleared}
 use Rattle.edge_model.specs.Rules.{IsTree}
 use Rattle.edge_model.specs.Tree.{Tree, is_directory, names_of_number}
-use Rattle.edge_model.specs.Walk.{within, find_name, found_number, gone_through, top, walk, walk_from}
+use Rattle.edge_model.specs.Walk.{Spot, within, find_name, found_number, gone_through, top, walk, walk_from}
 use Rattle.edge_model.proofs.Members.{IsAmong}
 use Rattle.edge_model.proofs.WalkLaws.{walk_in_directory}
 use Rattle.edge_steps.proofs.CountLaws.{slot_at, names_changed, ones, ones_named, slot_counted, slot_names}
@@ -46,7 +47,7 @@ names_another g t tree d i e is same = reach t (λ x. x ≡ d → ⊥) over (λ 
         absurd (omega (arith, fewer, gone, counted, single))
 
 -- the way to a name goes through the directory that holds it
-held_by : (x d : ℕ) (name last : List ℕ) → Ok (within x name) ≡ Ok (within d last) → d ≡ x
+held_by : (x d : ℕ) (name last : List ℕ) → ◌≡◌ {A = Result Spot Refusal} (Ok (within x name)) (Ok (within d last)) → d ≡ x
 held_by x d name last is = cc
 
 last_gone_from : (t : Tree) (x : ℕ) (name : List ℕ) (names : List (List ℕ)) (d : ℕ) (last : List ℕ) → walk_from t x name names ≡ Ok (within d last)
