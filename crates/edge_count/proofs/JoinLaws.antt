@@ -31,7 +31,7 @@ use Rattle.edge_count.proofs.RoomLaws.{free_now-need}
 use Rattle.edge_count.proofs.FreshLaws.{chain_number, range_same, above, touches, touches_is, under, there_is, there_by, there_low, touches_by, step_count}
 use Rattle.edge_count.proofs.ChainLaws.{chain_count}
 use Rattle.edge_count.proofs.KeptLaws.{kept_dirty, absent_is}
-use Rattle.edge_count.proofs.WriteStepLaws.{chain_there, chain_touched, chain_fresh, write_step}
+use Rattle.edge_count.proofs.WriteStepLaws.{RenewsChain, chain_there, chain_touched, chain_fresh, renewed_step, writable_renews}
 use Rattle.edge_count.proofs.CutStepLaws.{removed_number, cut_step}
 
 zero_first : (m : ℕ) → 0 + m ≡ m
@@ -68,13 +68,20 @@ module _ (g : Request) (c v : View) (n i : ℕ) (low : i < max_blocks_of g) (wri
       ∙ and_from _ _ (chain_touched g c v n i low writes removes stays p ∙ or_left (has (chain g n i) p) (touches g c v writes removes p) parts.0)
       (and_from _ _ (chain_there g c v n i low writes removes stays p parts.0) parts.1)))
 
+pub renewed_rest : (g : Request) (c v w : View) (n i reserve : ℕ) (indices : List ℕ) (writes removes : List Position) → HasShape g v n indices
+    → i < max_blocks_of g → RenewsChain g c v w n i indices
+    → AreOfOrKept g v w n writes → AreOfOrKept g v w n removes → has removes (data_at n i) ≡ false
+    → fresh_count g c v (data_at n i ∷ writes) removes + reserve ≤ free_now g c v → fresh_count g c w writes removes + reserve ≤ free_now g c w
+renewed_rest g c v w n i reserve indices writes removes shape low renews of_writes of_removes stays fits =
+    let step = renewed_step g c v w n i indices shape low renews writes removes of_writes of_removes stays in
+    let free = renews.free in omega arith
+
 pub write_rest : (g : Request) (c v w : View) (n i reserve : ℕ) (indices : List ℕ) (writes removes : List Position) → HasShape g v n indices → IsView g w
     → i < max_blocks_of g → IsMadeWritable g c v w n i indices
     → AreOfOrKept g v w n writes → AreOfOrKept g v w n removes → has removes (data_at n i) ≡ false
     → fresh_count g c v (data_at n i ∷ writes) removes + reserve ≤ free_now g c v → fresh_count g c w writes removes + reserve ≤ free_now g c w
-write_rest g c v w n i reserve indices writes removes shape view low made of_writes of_removes stays fits =
-    let step = write_step g c v w n i indices shape view low made writes removes of_writes of_removes stays in
-    let free = made.free in omega arith
+write_rest g c v w n i reserve indices writes removes shape view low made =
+    renewed_rest g c v w n i reserve indices writes removes shape low (writable_renews g c v w n i indices shape view made)
 
 pub cut_rest : (g : Request) (c v w : View) (n i reserve : ℕ) (indices : List ℕ) (writes removes : List Position) → HasShape g v n indices
     → IsCut g c v w n i indices

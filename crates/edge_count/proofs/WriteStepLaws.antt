@@ -1,4 +1,4 @@
--- A data block made writable takes the positions of its chain from the count of a change.
+-- A data block made writable, or new in any other way, takes the positions of its chain from the count of a change.
 use Rattle.std.proofs.Common.{◌≡◌, ◌≢◌, ◌⊎◌, ℕ, ◌+◌, ◌<◌, ◌==◌, ◌&&◌, ◌||◌, not, Bool, true, false, List, ◌∷◌, refl, sym, ap, ◌∙◌, subst, arith, inl, inr}
 use Rattle.std.specs.Prelude.{is_some}
 use Rattle.std.specs.List.{list_any, filter}
@@ -11,7 +11,7 @@ use Rattle.edge_base.specs.layout.Places.{max_blocks_of}
 use Rattle.edge_base.specs.tree.Chains.{is_on_chain}
 use Rattle.edge_base.specs.tree.Positions.{Position, same_position, data_at, above_data, chain, has, positions_of, positions_of_form}
 use Rattle.edge_base.proofs.PositionLaws.{has-append, has-filter, same_position_equiv, same_position_Decides}
-use Rattle.edge_store.specs.View.{View, IsView, is_used, is_new}
+use Rattle.edge_store.specs.View.{View, IsView, is_used, is_new, free_now}
 use Rattle.edge_store.specs.Placed.{data_block, block_at}
 use Rattle.edge_store.specs.Fresh.{is_dirty, has_after, is_there_after, fresh_count}
 use Rattle.edge_store.proofs.ViewLaws.{unused_zero}
@@ -61,22 +61,37 @@ module _ (g : Request) (c v : View) (n i : ℕ) (low : i < max_blocks_of g) (wri
 
 -- ---- the step
 
-module _ (g : Request) (c v w : View) (n i : ℕ) (indices : List ℕ) (shape : HasShape g v n indices) (view : IsView g w) (low : i < max_blocks_of g)
-    (made : IsMadeWritable g c v w n i indices)
+-- Node n, which had these data blocks, has data block i besides, and each position on the chain of that is new. Each other position of the
+-- node is new where it was.
+pub record RenewsChain (g : Request) (c v w : View) (n i : ℕ) (indices : List ℕ) : Type 0 where
+  pub shape : HasShape g w n (i ∷ indices)
+  pub dirty : (p : Position) → has (chain g n i) p ≡ true → is_dirty g c w p ≡ true
+  pub stays : (p : Position) → has (positions_of g n indices) p ≡ true → has (chain g n i) p ≡ false → is_dirty g c w p ≡ is_dirty g c v p
+  -- the free blocks fall by the positions of the chain that were not new
+  pub free : free_now g c w + fresh_on_chain g c v n i ≡ free_now g c v
+
+-- So it is where the data block is made writable.
+pub writable_renews : (g : Request) (c v w : View) (n i : ℕ) (indices : List ℕ) → HasShape g v n indices → IsView g w → IsMadeWritable g c v w n i indices
+    → RenewsChain g c v w n i indices
+writable_renews g c v w n i indices shape view made = record {
+  shape = made_shape g c v w n i indices shape view made;
+  dirty = made.dirty;
+  stays = λ p listed off. ap (is_new c w) (made.stays p listed off) ∙ ap (λ o. is_some o && not (is_used c (block_at g v p))) (made.holds p listed off);
+  free = made.free;
+}
+
+module _ (g : Request) (c v w : View) (n i : ℕ) (indices : List ℕ) (shape : HasShape g v n indices) (low : i < max_blocks_of g)
+    (renews : RenewsChain g c v w n i indices)
     (writes removes : List Position) (of_writes : AreOfOrKept g v w n writes) (of_removes : AreOfOrKept g v w n removes)
     (stays : has removes (data_at n i) ≡ false) where
   abbrev first : List Position
   first = data_at n i ∷ writes
 
-  -- the node afterwards
-  shape_w : HasShape g w n (i ∷ indices)
-  shape_w = made_shape g c v w n i indices shape view made
-
   -- ---- which data blocks are there after the whole change
 
   written : has_after g c w writes removes n i ≡ true
   written = or_right (has writes (data_at n i)) (not (data_block g w n i == 0) && not (has removes (data_at n i)))
-      (and_from _ _ (ap not (absent_is g w n (i ∷ indices) shape_w i) ∙ twice (list_any (λ k. k == i) (i ∷ indices)) (or_left (i == i) (list_any (λ k. k == i) indices) (eq-eqb i i refl))) (ap not stays))
+      (and_from _ _ (ap not (absent_is g w n (i ∷ indices) renews.shape i) ∙ twice (list_any (λ k. k == i) (i ∷ indices)) (or_left (i == i) (list_any (λ k. k == i) indices) (eq-eqb i i refl))) (ap not stays))
     where
       twice : (t : Bool) → t ≡ true → not (not t) ≡ true
       twice true h = refl
@@ -99,7 +114,7 @@ module _ (g : Request) (c v w : View) (n i : ℕ) (indices : List ℕ) (shape : 
       absent away =
           absent_is g v n indices shape x
           ∙ sym
-          (absent_is g w n (i ∷ indices) shape_w x ∙ ap (λ t. not (t || list_any (λ k. k == x) indices)) (is_false (i == x) (λ h. away (sym (eqb-true i x h)))))
+          (absent_is g w n (i ∷ indices) renews.shape x ∙ ap (λ t. not (t || list_any (λ k. k == x) indices)) (is_false (i == x) (λ h. away (sym (eqb-true i x h)))))
 
   same_here : (m x : ℕ) → m ≡ n → has_after g c v first removes m x ≡ has_after g c w writes removes m x
   same_here m x here = ap (λ (k : ℕ). has_after g c v first removes k x) here ∙ same_at x ∙ ap (λ (k : ℕ). has_after g c w writes removes k x) (sym here)
@@ -131,10 +146,8 @@ module _ (g : Request) (c v w : View) (n i : ℕ) (indices : List ℕ) (shape : 
   off_chain : (form : Form) (k : ℕ) → k < positions_of_form g form → has (chain g n i) (numbered n form k) ≡ false
       → is_dirty g c w (numbered n form k) ≡ is_dirty g c v (numbered n form k)
   off_chain form k low_k off = elim (cases_Bool (has (positions_of g n indices) (numbered n form k))) [
-    | inl listed ↦
-        ap (is_new c w) (made.stays (numbered n form k) listed off)
-        ∙ ap (λ o. is_some o && not (is_used c (block_at g v (numbered n form k)))) (made.holds (numbered n form k) listed off)
-    | inr none ↦ never w view (block_at g w (numbered n form k)) (zero_w none) ∙ sym (never v shape.view (block_at g v (numbered n form k)) (zero_v none))
+    | inl listed ↦ renews.stays (numbered n form k) listed off
+    | inr none ↦ never w renews.shape.view (block_at g w (numbered n form k)) (zero_w none) ∙ sym (never v shape.view (block_at g v (numbered n form k)) (zero_v none))
   ]
     where
       never : (u : View) → IsView g u → (b : ℕ) → b ≡ 0 → is_new c u b ≡ false
@@ -151,13 +164,13 @@ module _ (g : Request) (c v w : View) (n i : ℕ) (indices : List ℕ) (shape : 
         | inl zero ↦ zero
         | inr there ↦
             absurd
-            (let e : true ≡ false = sym ((made.places.places (numbered n form k) (λ t. n) low_k).0 there) ∙ has-append (chain g n i) (positions_of g n indices) (numbered n form k) ∙ (λ t. off t || none t) in cc)
+            (let e : true ≡ false = sym ((renews.shape.places.places (numbered n form k) (λ t. n) low_k).0 there) ∙ has-append (chain g n i) (positions_of g n indices) (numbered n form k) ∙ (λ t. off t || none t) in cc)
       ]
 
   still_fresh : (p : Position) → touches g c w writes removes p ≡ true → is_there_after g c v first removes p ≡ true
       → not (is_dirty g c w p) ≡ (not (is_dirty g c v p) && not (has (chain g n i) p))
   still_fresh p h there = elim (cases_Bool (has (chain g n i) p)) [
-    | inl on ↦ ap not (made.dirty p on) ∙ sym (none_left (not (is_dirty g c v p)) (has (chain g n i) p) on)
+    | inl on ↦ ap not (renews.dirty p on) ∙ sym (none_left (not (is_dirty g c v p)) (has (chain g n i) p) on)
     | inr off ↦ ap not (same off) ∙ sym (all_left (not (is_dirty g c v p)) (has (chain g n i) p) off)
   ]
     where
@@ -183,8 +196,14 @@ module _ (g : Request) (c v w : View) (n i : ℕ) (indices : List ℕ) (shape : 
       ]
 
   -- The count of the change is that of the chain, and that of the rest afterwards.
-  pub write_step : fresh_count g c v first removes ≡ fresh_on_chain g c v n i + fresh_count g c w writes removes
-  write_step =
+  pub renewed_step : fresh_count g c v first removes ≡ fresh_on_chain g c v n i + fresh_count g c w writes removes
+  renewed_step =
       step_count g c v w first removes writes removes (filter (λ p. not (is_dirty g c v p)) (chain g n i)) (has (chain g n i))
       (chain_fresh g c v n i low writes removes stays) (chain_touched g c v n i low writes removes stays) same_there still_fresh
       ∙ ap (λ (m : ℕ). m + fresh_count g c w writes removes) (sym (chain_count g c v n i))
+
+pub write_step : (g : Request) (c v w : View) (n i : ℕ) (indices : List ℕ) → HasShape g v n indices → IsView g w → i < max_blocks_of g
+    → IsMadeWritable g c v w n i indices → (writes removes : List Position)
+    → AreOfOrKept g v w n writes → AreOfOrKept g v w n removes → has removes (data_at n i) ≡ false
+    → fresh_count g c v (data_at n i ∷ writes) removes ≡ fresh_on_chain g c v n i + fresh_count g c w writes removes
+write_step g c v w n i indices shape view low made = renewed_step g c v w n i indices shape low (writable_renews g c v w n i indices shape view made)

@@ -11,4 +11,14 @@ pub mod NamedAtLaws
 pub mod GoneLaws
 pub mod StoreLaws
 pub mod LinkedLaws
+pub mod StepLaws
+pub mod ParentLaws
+pub mod TakeLaws
+pub mod MoveTreeLaws
+pub mod PutLaws
+pub mod MovedLaws
 pub mod SlotRoomLaws
+pub mod PutRoomLaws
+pub mod MoveRoomLaws
+pub mod PutStoreLaws
+pub mod MovedStoreLaws

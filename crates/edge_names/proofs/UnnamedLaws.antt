@@ -35,7 +35,7 @@ blocks_written g slots slot = if nat_lt (slot / slots_in_block g) (slot_blocks g
 abbrev pub blocks_removed : Request → Slots → ℕ → List ℕ
 blocks_removed g slots slot = range_with_len (slot_blocks g (without_slot slots slot)) (slot_blocks g slots - slot_blocks g (without_slot slots slot))
 
-written_at : (g : Request) (d slot : ℕ) (slots : Slots) → map (data_at d) (blocks_written g slots slot) ≡ clear_writes g d slots slot
+pub written_at : (g : Request) (d slot : ℕ) (slots : Slots) → map (data_at d) (blocks_written g slots slot) ≡ clear_writes g d slots slot
 written_at g d slot slots = by (nat_lt (slot / slots_in_block g) (slot_blocks g (without_slot slots slot)))
   where
     by : (left : Bool) → map (data_at d) (cond left (slot / slots_in_block g ∷ []) []) ≡ cond left (data_at d (slot / slots_in_block g) ∷ []) []

@@ -1,22 +1,23 @@
 -- What the parts of a move do to a store whose working view stands for nodes on the way from one tree to another. old and new are the store as
 -- a part begins and after it.
-use Rattle.std.specs.Prelude.{◌≡◌, ◌-◌, ◌==◌, ℕ, if◌then◌else◌, List, [], ◌∷◌, map, Option, Some, None}
+use Rattle.std.specs.Prelude.{◌≡◌, ◌≤◌, ◌-◌, ◌==◌, ℕ, if◌then◌else◌, List, [], ◌∷◌, map, Option, Some, None}
 use Rattle.edge_base.specs.declared.geometry.Request.{Request}
 use Rattle.edge_base.specs.tree.Nodes.{Node, indices_of}
 use Rattle.edge_base.specs.tree.Positions.{Position, data_at}
 use Rattle.edge_store.specs.declared.fault.StoreFault.{StoreFault}
 use Rattle.edge_store.specs.State.{StoreState, Told, HasInode}
-use Rattle.edge_store.specs.View.{View}
-use Rattle.edge_model.specs.Named.{placed, slot_position}
+use Rattle.edge_store.specs.View.{View, free_now}
+use Rattle.edge_model.specs.Named.{placed, slot_position, without_slot}
 use Rattle.edge_model.specs.Names.{with_parent}
 use Rattle.edge_model.specs.State.{State}
-use Rattle.edge_model.specs.Tree.{Tree, links_of, with_node}
+use Rattle.edge_model.specs.Tree.{Tree, links_of, slots_at, with_node}
+use Rattle.edge_dir.specs.Cleared.{clearing_need}
 use Rattle.edge_dir.specs.Directory.{IsDirectoryNode}
 use Rattle.edge_stands.specs.Dirtied.{TreeDirtied}
 use Rattle.edge_stands.specs.Stands.{StandsWith, head_with, with_links}
 use Rattle.edge_volume.specs.Parts.{IsOfNoDamage}
 use Rattle.edge_volume.specs.Volume.{StoreStands}
-use Rattle.edge_names.specs.Moved.{MayMove}
+use Rattle.edge_names.specs.Moved.{HasRoomToMove, MayMove}
 use Rattle.edge_names.specs.declared.moves.Move.{Move}
 use Rattle.edge_names.specs.declared.moves.NamedNode.{NamedNode}
 
@@ -42,6 +43,12 @@ abbrev pub PutsName : StoreState → StoreState → Move → List ℕ → Type 0
 PutsName old new m name = (z : State) → StoreStands old z → MayMove old.origin.request z m name
     → Steps old new z.tree (placed z.tree m.to.dir m.to.slot (record { name = name; number = m.node.number })) (links_of old.origin.request z.tree)
     (slot_position old.origin.request m.to.dir m.to.slot ∷ []) []
+
+-- and where there is room for a move there is room left to clear its old slot
+abbrev pub LeavesRoomToClear : StoreState → StoreState → Move → List ℕ → Type 0
+LeavesRoomToClear old new m name = (z : State) → StoreStands old z → MayMove old.origin.request z m name → HasRoomToMove old m.to m.from
+    → clearing_need new m.from.dir m.from.slot (without_slot (slots_at (placed z.tree m.to.dir m.to.slot (record { name = name; number = m.node.number })) m.from.dir) m.from.slot)
+    ≤ free_now new.origin.request new.committed new.working
 
 -- ---- a node
 

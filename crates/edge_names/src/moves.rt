@@ -1,7 +1,6 @@
 ghost use Rattle.std.specs.Prelude.{◌≡◌, ◌≤◌, ℕ, true, length, IfSome, OnOk, Some};
 ghost use Rattle.edge_space.specs.Answers.{AreThere};
 ghost use Rattle.edge_space.specs.Changes.{IsWithin};
-ghost use Rattle.edge_space.specs.Slots.{IsSlotWithin};
 ghost use Rattle.edge_space.specs.declared.change.Change.TheVariants.{Slots};
 ghost use Rattle.edge_store.specs.Calls.{KeepsPoint};
 ghost use Rattle.edge_store.specs.State.{IsLive, IsNumber, HasInode};
@@ -10,7 +9,7 @@ ghost use Rattle.edge_volume.specs.Stopped.{fault_in};
 ghost use Rattle.edge_volume.specs.Parts.{EndsBy};
 ghost use Rattle.edge_volume.specs.Nodes.{IsNodeOf};
 ghost use Rattle.edge_names.specs.Moved.{Moves, NeverMoving};
-ghost use Rattle.edge_names.specs.Stepped.{KeepsNodes, PutsName, NeverOnNamed, SetsParent, TakesLink};
+ghost use Rattle.edge_names.specs.Stepped.{KeepsNodes, LeavesRoomToClear, PutsName, NeverOnNamed, SetsParent, TakesLink};
 
 use edge_base::{Head, NodeType};
 use edge_cut::cut_from;
@@ -40,19 +39,23 @@ fn put_name<S: Store>(s: &mut S, change: &Move, name: &[u8]) -> Result<(), Store
     requires live { IsLive (S.state s.old) }
     requires number { IsNumber (S.state s.old) change.now.to.dir }
     requires there { HasInode (S.state s.old) change.now.to.dir }
-    requires block { IsSlotWithin (S.state s.old).origin.request change.now.to }
+    requires within { IsWithin (S.state s.old).origin.request
+        (Slots (Some change.now.to) (Some change.now.from)) }
     requires name { length name.now ≤ (S.state s.old).origin.request.name_max }
     ensures ends { EndsBy (fault_in result) (S.state s.old) (S.state s.new) }
     ensures point { KeepsPoint (S.state s.old) (S.state s.new) }
     ensures keeps { OnOk result (KeepsNodes (S.state s.old) (S.state s.new)) }
     ensures undamaged { NeverMoving (S.state s.old) change.now name.now (fault_in result) }
     ensures put { OnOk result (PutsName (S.state s.old) (S.state s.new) change.now name.now) }
+    ensures room { OnOk result
+        (LeavesRoomToClear (S.state s.old) (S.state s.new) change.now name.now) }
 {
+    let _within_limits = s.geometry().request();
     let to = change.to;
-    match change.replaced {
-        None => place(s, to.dir, to.slot, name, change.node.number),
-        Some(_) => replace(s, to.dir, to.slot, change.node.number),
+    if change.replaced.is_some() {
+        return replace(s, to.dir, to.slot, change.node.number);
     }
+    place(s, to.dir, to.slot, name, change.node.number)
 }
 
 /// Gives a node that is a directory another parent.
@@ -67,14 +70,20 @@ fn set_parent<S: Store>(s: &mut S, node: NamedNode, parent: u32) -> Result<(), S
     ensures undamaged { NeverOnNamed (S.state s.old) node (fault_in result) }
     ensures set { OnOk result (SetsParent (S.state s.old) (S.state s.new) node parent) }
 {
-    if node.head.kind == NodeType::File || node.head.parent == parent {
+    let stays = node.head.parent == parent;
+    if stays {
         return Ok(());
     }
-    let head = Head {
-        parent,
-        ..node.head
-    };
-    s.set_head(node.number, head)
+    match node.head.kind {
+        NodeType::File => Ok(()),
+        NodeType::Directory => {
+            let head = Head {
+                parent,
+                ..node.head
+            };
+            s.set_head(node.number, head)
+        }
+    }
 }
 
 /// Takes a link from a node, and drops it with all its blocks where it was the last.
@@ -89,7 +98,8 @@ fn take_link<S: Store>(s: &mut S, node: NamedNode) -> Result<(), StoreFault>
     ensures taken { OnOk result (TakesLink (S.state s.old) (S.state s.new) node) }
 {
     let _within_limits = s.geometry().request();
-    if node.head.links == 1 {
+    let last = node.head.links == 1;
+    if last {
         cut_from(s, node.number, 0)?;
         return s.drop_inode(node.number);
     }
