@@ -29,3 +29,10 @@ pub mod MakeDirLaws
 pub mod CreateLaws
 pub mod LinkPlanLaws
 pub mod LinkLaws
+pub mod RenamePlanLaws
+pub mod RenameTreeLaws
+pub mod RenameNamedLaws
+pub mod RenameMayLaws
+pub mod RenameLaws
+pub mod RenameAtLaws
+pub mod RenameReadyLaws

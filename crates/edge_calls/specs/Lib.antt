@@ -6,3 +6,4 @@ pub mod Openings
 pub mod Makes
 pub mod Unnaming
 pub mod Links
+pub mod Renames

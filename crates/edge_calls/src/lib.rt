@@ -9,6 +9,7 @@ mod link;
 mod make;
 mod open;
 mod read;
+mod rename;
 mod resize;
 mod session;
 mod status;

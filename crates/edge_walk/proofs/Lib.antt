@@ -3,4 +3,5 @@ pub mod TreeLaws
 pub mod StepLaws
 pub mod WayLaws
 pub mod FindLaws
+pub mod ThroughLaws
 pub mod NameLaws

@@ -8,4 +8,4 @@ mod walk;
 
 pub use head::named_head;
 pub use spot::{Spot, at_spot, place_at};
-pub use walk::{enter, locate, reach, spot_at};
+pub use walk::{Way, enter, locate, locate_through, reach, spot_at};

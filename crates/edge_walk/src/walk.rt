@@ -6,6 +6,7 @@ ghost use Rattle.edge_volume.specs.Parts.{Looks, IsOfNoDamage};
 ghost use Rattle.edge_volume.specs.Stopped.{fault_of, IfAnswered};
 ghost use Rattle.edge_walk.specs.Reached.{IsReached, IsHolder};
 ghost use Rattle.edge_walk.specs.Spots.{AreShort, HasHolder, HasShortName, spotted, enters, number_below, number_at};
+ghost use Rattle.edge_walk.specs.Ways.{goes_through, led_to};
 
 use crate::head::named_head;
 use crate::spot::{ROOT, Spot, at_spot};
@@ -14,6 +15,13 @@ use edge_dir::find;
 use edge_path::{PathNames, parts};
 use edge_store::Store;
 use edge_volume::Stop;
+
+/// Where a path leads, and whether the way there goes through some directory.
+#[derive(Clone, Copy, Debug)]
+pub struct Way<'a> {
+    pub spot: Spot<'a>,
+    pub through: bool,
+}
 
 /// A number that has to be a directory's, on the way to a name in it.
 pub fn enter<S: Store>(s: &mut S, d: u32) -> Result<(), Stop>
@@ -70,6 +78,45 @@ pub fn locate<'a, S: Store>(s: &mut S, mut names: PathNames<'a>) -> Result<Spot<
     }
     enter(s, d)?;
     Ok(Spot::Within { d, name })
+}
+
+/// Where the names of a path lead, and whether a number is that of a directory on the way, the one
+/// among them that holds the last name. Each directory on the way is read once, up to its name.
+pub fn locate_through<'a, S: Store>(
+    s: &mut S,
+    mut names: PathNames<'a>,
+    n: u32,
+) -> Result<Way<'a>, Stop>
+    requires live { IsLive (S.state s.old) }
+    ensures looks { Looks S.Store (fault_of result) s.old s.new }
+    ensures undamaged { OnTree (S.state s.old) (λ t. IsOfNoDamage (fault_of result)) }
+    ensures spot { IfAnswered result (λ r.
+        OnTree (S.state s.old) (λ t. led_to r ≡ walk t names.entry)) }
+    ensures holder { IfOk result (λ way. HasHolder (S.state s.new) way.spot) }
+    ensures through { IfOk result (λ way.
+        OnTree (S.state s.old) (λ t. way.through ≡ goes_through t names.entry n)) }
+    ensures short { AreShort (S.state s.old).origin.request names.entry
+        → IfOk result (λ way. HasShortName (S.state s.old).origin.request way.spot) }
+{
+    let Some(mut name) = names.next() else {
+        return Ok(Way {
+            spot: Spot::Top,
+            through: false,
+        });
+    };
+    let _within_limits = s.geometry().request();
+    let mut d = ROOT;
+    let mut through = false;
+    for next in names {
+        through = through || d == n;
+        d = below(s, d, name)?;
+        name = next;
+    }
+    enter(s, d)?;
+    Ok(Way {
+        spot: Spot::Within { d, name },
+        through: through || d == n,
+    })
 }
 
 /// Where a path leads, or why it is refused.
