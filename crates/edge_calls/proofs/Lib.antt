@@ -36,3 +36,4 @@ pub mod RenameMayLaws
 pub mod RenameLaws
 pub mod RenameAtLaws
 pub mod RenameReadyLaws
+pub mod FinishLaws

@@ -7,3 +7,4 @@ pub mod Makes
 pub mod Unnaming
 pub mod Links
 pub mod Renames
+pub mod VolumeLaws

@@ -2,6 +2,7 @@
 //! does. A command is a method, in the file of its kind; each ensures the one relation `Did`.
 #![tactic(auto)]
 
+mod ask;
 mod descriptors;
 mod directory;
 mod handles;
@@ -13,8 +14,8 @@ mod rename;
 mod resize;
 mod session;
 mod status;
-mod vacant;
 mod unname;
+mod vacant;
 mod volume;
 mod write;
 
