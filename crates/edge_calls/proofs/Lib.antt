@@ -15,3 +15,4 @@ pub mod ContentLaws
 pub mod ReadLaws
 pub mod SlotLaws
 pub mod ReadDirLaws
+pub mod FinishLaws

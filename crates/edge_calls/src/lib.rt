@@ -2,6 +2,7 @@
 //! does. A command is a method, in the file of its kind; each ensures the one relation `Did`.
 #![tactic(auto)]
 
+mod ask;
 mod descriptors;
 mod directory;
 mod handles;
