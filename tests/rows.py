@@ -142,7 +142,7 @@ class Table:
             for image, torn in permitted(disk, loose):
                 judged = Row()
                 judged.script = b"stat /\n"
-                answer = Run(judged, ["run", "I", "-b", str(disk.size)], lambda size: Disk(size, image, 0, []))
+                answer = Run(judged, ["run", "I", "-b", str(disk.size)], lambda size: Disk(size, image, judged.room["disk"], []))
                 known = {self.image: "old image: ", whole.disk.shown(): "new image: "}.get(image, "")
                 key = torn + known + answer.fault_line() + escaped(answer.output)
                 counts[key] = counts.get(key, 0) + 1
