@@ -1,6 +1,7 @@
 #!/usr/bin/env python3
-"""Computes what the tables of crates/edge_rows, crates/edge_part_rows, crates/edge_store_rows and crates/edge_point_rows have to answer, from
-the documents alone, and compares. Lines with a statement that it does not know are counted and left out.
+"""Computes what the tables of crates/edge_rows, crates/edge_part_rows, crates/edge_script_rows, crates/edge_store_rows and
+crates/edge_point_rows have to answer, from the documents alone, and compares. Lines with a statement that it does not know are counted and
+left out.
 
 usage: tests/rows.py [CRATE..]"""
 import os
@@ -16,6 +17,7 @@ from rows_script import (
     Bad, hex_in, number_in, path_in, reply_of, spelling_of, told_command)
 from rows_store import StoreTable
 from rows_point import PointTable
+from rows_volume import ScriptTable
 
 
 NUMBERS = [
@@ -450,14 +452,14 @@ def permitted(disk, loose):
             return
 
 
-TABLES = {"edge_store_rows": StoreTable, "edge_point_rows": PointTable}
-CRATES = ["edge_rows", "edge_part_rows", "edge_store_rows", "edge_point_rows"]
+TABLES = {"edge_rows": Table, "edge_part_rows": Table, "edge_script_rows": ScriptTable,
+          "edge_store_rows": lambda _: StoreTable(), "edge_point_rows": lambda _: PointTable()}
 
 
 def main():
     """Judges each row of each table, in an empty folder of its own."""
     top = os.path.join(os.path.dirname(os.path.abspath(__file__)), "..")
-    crates = [os.path.join(top, "crates", name) for name in sys.argv[1:] or CRATES]
+    crates = [os.path.join(top, "crates", name) for name in sys.argv[1:] or TABLES]
     return 0 if all([judge(os.path.abspath(crate)) for crate in crates]) else 1
 
 
@@ -465,7 +467,7 @@ def judge(crate):
     rows, replies = (open(os.path.join(crate, name), encoding="ascii").read().splitlines() for name in ("stdin", "stdout"))
     with tempfile.TemporaryDirectory() as room:
         os.chdir(room)
-        table = TABLES.get(os.path.basename(crate), lambda: Table(crate))()
+        table = TABLES[os.path.basename(crate)](crate)
         judged, left, wrong, at = compare(table, rows, replies)
         os.chdir(crate)
     print(f"{os.path.basename(crate)}: {judged} rows judged, {left} left out, {wrong} wrong")

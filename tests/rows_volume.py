@@ -1,6 +1,11 @@
+#!/usr/bin/env python3
 """What docs/COMMANDS.md and docs/DEFINITIONS.md say of the commands of a script, as a program: a plain tree of files and directories,
 the positions that it needs, which of them are dirty since the last point, and the reply to each line."""
-from rows_model import bad_geometry, table
+import os
+import sys
+import zlib
+
+from rows_model import bad_geometry, order_of, table
 from rows_script import command_in, spelling_of
 
 NO = {"NoEntry": 2, "BadDescriptor": 9, "Busy": 16, "Exists": 17, "NotDir": 20, "IsDir": 21, "Invalid": 22, "NoInodes": 23,
@@ -102,17 +107,14 @@ def names_in(path):
 class Volume:
     """A volume as it is mounted, its tree, and the points taken since."""
     def __init__(self, g):
-        self.g, self.nodes = g, {2: Directory(0)}
-        self.needs = {2: set()}
+        self.g, self.last = g, ({2: Directory(0)}, {2: set()})
         self.mount()
 
     def mount(self):
         """The tree is that of the last point; nothing is dirty or open."""
         self.mask, self.opened, self.points = MOUNTED, [None] * MOST_OPEN, 0
-        if not hasattr(self, "last"):
-            self.settle()
-        self.nodes, self.needs = dict(self.last[0]), dict(self.last[1])
-        self.dirty = set()
+        self.nodes, self.needs = map(dict, self.last)
+        self.settle()
 
     def settle(self):
         """What the last point has, and how many blocks it uses."""
@@ -564,3 +566,53 @@ class Writer:
             line = self.line().encode()
             self.volume.answer(line)
             yield line.decode()
+
+
+# ---- the table
+
+class ScriptTable:
+    """Answers the statements of the table of scripts. The image stays from one line to the next."""
+    def __init__(self, folder):
+        self.folder, self.volume = folder, None
+
+    def answers(self, line):
+        verb, _, rest = line.partition(" ")
+        return {"volume": self.do_volume, "run": self.do_run, "file": self.do_file}[verb](rest)
+
+    def do_volume(self, text):
+        _, _, numbers = order_of(["format", "I", *text.split(" ")])
+        self.volume = Volume(Geometry(*numbers))
+        yield f"  < formatted {self.volume.g.allocable}"
+
+    def replies(self, lines):
+        self.volume.mount()
+        yield from map(self.volume.answer, lines)
+
+    def end(self, count):
+        return f"  status 0, commands {count}, points {self.volume.finish()}"
+
+    def do_run(self, text):
+        lines = text.split("; ")
+        for line, reply in zip(lines, self.replies(line.encode() for line in lines)):
+            yield f"  {line}: {reply.decode()}"
+        yield self.end(len(lines))
+
+    def do_file(self, name):
+        with open(os.path.join(self.folder, "data", name), "rb") as file:
+            replies = list(self.replies(file.read().splitlines()))
+        refused = sum(reply.startswith(b"no ") for reply in replies)
+        word = zlib.crc32(b"".join(reply + b"\n" for reply in replies))
+        yield f"  {len(replies)} replies, {refused} of them refusals, check word {word:08x}"
+        yield self.end(len(replies))
+
+
+def main():
+    """usage: tests/rows_volume.py SEED COUNT WORD.., the options of `format`: prints a script of so many lines for such a volume."""
+    seed, count, *words = sys.argv[1:]
+    _, _, numbers = order_of(["format", "I", *words])
+    for line in Writer(Volume(Geometry(*numbers)), int(seed)).script(int(count)):
+        print(line)
+
+
+if __name__ == "__main__":
+    main()
