@@ -17,7 +17,7 @@ from rows_script import (
     Bad, hex_in, number_in, path_in, reply_of, spelling_of, told_command)
 from rows_store import StoreTable
 from rows_point import PointTable
-from rows_volume import ScriptTable
+from rows_volume import ScriptTable, replies_of
 
 
 NUMBERS = [
@@ -460,7 +460,20 @@ def main():
     """Judges each row of each table, in an empty folder of its own."""
     top = os.path.join(os.path.dirname(os.path.abspath(__file__)), "..")
     crates = [os.path.join(top, "crates", name) for name in sys.argv[1:] or TABLES]
-    return 0 if all([judge(os.path.abspath(crate)) for crate in crates]) else 1
+    judged = [judge(os.path.abspath(crate)) for crate in crates]
+    return 0 if all(judged) and judge_examples(os.path.join(top, "examples")) else 1
+
+
+def judge_examples(folder):
+    """Whether the stored replies to each example are those that the commands have on a fresh volume."""
+    wrong = []
+    for name in sorted(name for name in os.listdir(folder) if name.endswith(".script")):
+        script, replies = (open(os.path.join(folder, file), "rb").read().splitlines()
+                           for file in (name, name.replace(".script", ".replies")))
+        if replies != replies_of(["-n", "64", "-m", "8"], script):
+            wrong.append(name)
+    print("examples:", "wrong are " + " ".join(wrong) if wrong else "all as computed")
+    return not wrong
 
 
 def judge(crate):

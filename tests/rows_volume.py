@@ -606,6 +606,13 @@ class ScriptTable:
         yield self.end(len(replies))
 
 
+def replies_of(words, lines):
+    """The replies to a script on a fresh volume, by the options of `format`."""
+    table = ScriptTable(None)
+    list(table.do_volume(" ".join(words)))
+    return list(table.replies(lines))
+
+
 def main():
     """usage: tests/rows_volume.py SEED COUNT WORD.., the options of `format`: prints a script of so many lines for such a volume."""
     seed, count, *words = sys.argv[1:]

@@ -179,6 +179,12 @@ check 0 'formatted 45' '' format kept.img -n 64 -m 8
 check 0 "$(printf 'ok\nok\nok 0\nok\nok 2\nok')" '' run kept.img <losing
 check 0 "$(printf 'ok 0\nend\nend\nok 4 f 0 1\nno 2')" '' run kept.img <looking
 
+# The examples, each on a fresh volume.
+for example in log config full tour; do
+	check 0 'formatted 45' '' format "$example.img" -n 64 -m 8
+	check 0 "$(cat "$top/examples/$example.replies")" '' run "$example.img" <"$top/examples/$example.script"
+done
+
 # Formats: the size of the file, the blocks that are told, and that the image runs.
 check 0 'formatted 45' '' format new.img -n 64 -m 8
 [ "$(wc -c <new.img)" -eq 32768 ] || { failed=$((failed + 1)); echo 'new.img has another size'; }
