@@ -185,6 +185,21 @@ for example in log config full tour; do
 	check 0 "$(cat "$top/examples/$example.replies")" '' run "$example.img" <"$top/examples/$example.script"
 done
 
+# A file has 65,535 names at most: its own in the root, and all others below 255 directories.
+awk 'BEGIN {
+	print "open /f wc"
+	for (d = 1; d <= 255; d++) print "mkdir /" d
+	for (d = 1; d <= 255; d++) for (k = 1; k <= (d < 255 ? 257 : 256); k++) print "link /f /" d "/" k
+	print "link /f /g\nstat /f\nunlink /255/1\nlink /f /g\nlink /f /h\nstat /g"
+}' >naming
+awk 'BEGIN {
+	print "ok 0"
+	for (line = 2; line <= 65790; line++) print "ok"
+	print "no 31\nok 3 f 0 65535\nok\nok\nno 31\nok 3 f 0 65535"
+}' >named
+check 0 'formatted 1445' '' format names.img -b 4096 -n 2048 -m 300
+check 0 "$(cat named)" '' run names.img -b 4096 <naming
+
 # Formats: the size of the file, the blocks that are told, and that the image runs.
 check 0 'formatted 45' '' format new.img -n 64 -m 8
 [ "$(wc -c <new.img)" -eq 32768 ] || { failed=$((failed + 1)); echo 'new.img has another size'; }
