@@ -1,8 +1,8 @@
 # The program, its demonstration, its tests and its installation. `rt` proves and builds.
 
 PREFIX = /usr/local
-SCRIPT = crates/edge/stdin
-REPLIES = crates/edge/stdout
+SCRIPT = examples/tour.script
+REPLIES = examples/tour.replies
 
 # The crates of the program, each behind those that it uses, and the files that they are made of.
 CRATES := $(shell awk -F: ' \
@@ -41,8 +41,9 @@ build/edge: $(SOURCES)
 	@install crates/edge/out/edge build/edge
 	@echo 'built build/edge'
 
-# Shows the program at work in a minute, built and not proved: it formats an image, runs the stored
-# script on it, shows each line with its reply, and compares the replies with the stored ones.
+# Shows the program at work in a minute or two, built and not proved: it formats an image, runs a script
+# on it (directories and files, writes, reads, a rename, a point, a full volume that gets room back),
+# shows each line with its reply, and compares the replies with the stored ones.
 demo:
 	@rm -rf build/demo
 	@mkdir -p build/demo/cases

@@ -54,5 +54,5 @@ measure() {
     echo "  xxd -r -p      $(per_second xxd -r -p) bytes a second"
 }
 
-measure "$count" 'read 0 4096' 'bad'
-measure "$((count / 100))" "write 0 $(yes 9f | head -n 4096 | tr -d '\n')" 'bad'
+measure "$count" 'read 0 4096' 'no 9'
+measure "$((count / 100))" "write 0 $(yes 9f | head -n 4096 | tr -d '\n')" 'no 9'

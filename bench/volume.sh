@@ -1,7 +1,8 @@
 #!/bin/sh
-# How long `edge format` and the mount of `edge run` take on volumes of all sizes, the most memory that they take, and
-# the calls of the image's file that they make, beside `mke2fs` on a file of the same size where it is installed.
-# The images are sparse files in memory, where /dev/shm is there. Usage: bench/volume.sh [SIZE], the bytes of a block.
+# How long `edge format`, and the mount and closing point of `edge run`, take on volumes of all sizes, the most memory
+# that they take, and the calls of the image's file that they make, beside `mke2fs` on a file of the same size where it
+# is installed. The images are sparse files in memory, where /dev/shm is there. Usage: bench/volume.sh [SIZE], the bytes
+# of a block.
 set -eu
 
 size=${1:-512}

@@ -1,6 +1,7 @@
 #!/usr/bin/env python3
-"""Computes what the tables of crates/edge_rows, crates/edge_part_rows, crates/edge_store_rows and crates/edge_point_rows have to answer, from
-the documents alone, and compares. Lines with a statement that it does not know are counted and left out.
+"""Computes what the tables of crates/edge_rows, crates/edge_part_rows, crates/edge_script_rows, crates/edge_store_rows and
+crates/edge_point_rows have to answer, from the documents alone, and compares. Lines with a statement that it does not know are counted and
+left out.
 
 usage: tests/rows.py [CRATE..]"""
 import os
@@ -16,6 +17,7 @@ from rows_script import (
     Bad, hex_in, number_in, path_in, reply_of, spelling_of, told_command)
 from rows_store import StoreTable
 from rows_point import PointTable
+from rows_volume import ScriptTable, replies_of
 
 
 NUMBERS = [
@@ -142,7 +144,7 @@ class Table:
             for image, torn in permitted(disk, loose):
                 judged = Row()
                 judged.script = b"stat /\n"
-                answer = Run(judged, ["run", "I", "-b", str(disk.size)], lambda size: Disk(size, image, 0, []))
+                answer = Run(judged, ["run", "I", "-b", str(disk.size)], lambda size: Disk(size, image, judged.room["disk"], []))
                 known = {self.image: "old image: ", whole.disk.shown(): "new image: "}.get(image, "")
                 key = torn + known + answer.fault_line() + escaped(answer.output)
                 counts[key] = counts.get(key, 0) + 1
@@ -450,22 +452,35 @@ def permitted(disk, loose):
             return
 
 
-TABLES = {"edge_store_rows": StoreTable, "edge_point_rows": PointTable}
-CRATES = ["edge_rows", "edge_part_rows", "edge_store_rows", "edge_point_rows"]
+TABLES = {"edge_rows": Table, "edge_part_rows": Table, "edge_script_rows": ScriptTable,
+          "edge_store_rows": lambda _: StoreTable(), "edge_point_rows": lambda _: PointTable()}
 
 
 def main():
     """Judges each row of each table, in an empty folder of its own."""
     top = os.path.join(os.path.dirname(os.path.abspath(__file__)), "..")
-    crates = [os.path.join(top, "crates", name) for name in sys.argv[1:] or CRATES]
-    return 0 if all([judge(os.path.abspath(crate)) for crate in crates]) else 1
+    crates = [os.path.join(top, "crates", name) for name in sys.argv[1:] or TABLES]
+    judged = [judge(os.path.abspath(crate)) for crate in crates]
+    return 0 if all(judged) and judge_examples(os.path.join(top, "examples")) else 1
+
+
+def judge_examples(folder):
+    """Whether the stored replies to each example are those that the commands have on a fresh volume."""
+    wrong = []
+    for name in sorted(name for name in os.listdir(folder) if name.endswith(".script")):
+        script, replies = (open(os.path.join(folder, file), "rb").read().splitlines()
+                           for file in (name, name.replace(".script", ".replies")))
+        if replies != replies_of(["-n", "64", "-m", "8"], script):
+            wrong.append(name)
+    print("examples:", "wrong are " + " ".join(wrong) if wrong else "all as computed")
+    return not wrong
 
 
 def judge(crate):
     rows, replies = (open(os.path.join(crate, name), encoding="ascii").read().splitlines() for name in ("stdin", "stdout"))
     with tempfile.TemporaryDirectory() as room:
         os.chdir(room)
-        table = TABLES.get(os.path.basename(crate), lambda: Table(crate))()
+        table = TABLES[os.path.basename(crate)](crate)
         judged, left, wrong, at = compare(table, rows, replies)
         os.chdir(crate)
     print(f"{os.path.basename(crate)}: {judged} rows judged, {left} left out, {wrong} wrong")

@@ -3,7 +3,7 @@ import os
 import struct
 import zlib
 
-from rows_script import asks_root
+from rows_script import command_in
 
 SIZES = (512, 1024, 2048, 4096)
 LINE, LINES, BYTES = 8209, 2**32 - 1, 2**40
@@ -289,66 +289,86 @@ def format_disk(disk, g, moment):
     disk.flush()
 
 
+class Live:
+    """What is mounted: the geometry, the block of the live metaroot and its record, which blocks are used from the inode table on,
+    and the blocks that have been read."""
+    def __init__(self, g, place, root, used):
+        self.g, self.place, self.root, self.used = g, place, root, used
+        self.known = {*range(3), *(3 + 2 * i + (root[4] >> i & 1) for i in range(imap_pairs(*g[:2])))}
+
+
 def mount(disk):
-    """The reason, or the geometry and which blocks are used, from the inode table on."""
+    """The reason, or what is mounted."""
     if len(disk.blocks) < 3:
-        return 1, None, None
+        return 1, None
     try:
         g = master(disk.read(0))[0]
     except Fault:
-        return 1, None, None
+        return 1, None
     if g[0] != disk.size:
-        return 2, None, None
+        return 2, None
     if g[1] > len(disk.blocks):
-        return 3, None, None
+        return 3, None
     roots = []
     for b in (1, 2):
         try:
-            roots.append(metaroot(g, disk.read(b)))
+            roots.append((b, metaroot(g, disk.read(b))))
         except Fault:
             pass
     if not roots:
-        return 4, None, None
-    live = max(roots, key=lambda root: root[0])
+        return 4, None
+    place, live = max(roots, key=lambda found: (found[1][0], -found[0]))
     if live[0] > 2**63:
-        return 5, None, None
+        return 5, None
     pairs = imap_pairs(*g[:2])
     used = [] if pairs else [live[4] >> i & 1 for i in range(g[1] - 3)]
     for i in range(pairs):
         try:
             used += imap_node(g, i, disk.read(3 + 2 * i + (live[4] >> i & 1)))[1]
         except Fault:
-            return 6, None, None
+            return 6, None
     free = used[2 * g[2]:].count(0)
     numbers = sum(not used[2 * i] and not used[2 * i + 1] for i in range(g[2]))
     if (free, numbers) != live[1:3]:
-        return 7, None, None
-    return (8 if free <= 2 else None), g, used
+        return 7, None
+    return (8 if free <= 2 else None), Live(g, place, live, used)
+
+
+def take_point(disk, live):
+    """A point with nothing changed: of all that a point writes the metaroot alone, in the block that is not live."""
+    sequence, blocks, inodes, after, bits = live.root
+    live.place, live.root = 3 - live.place, (sequence + 1, blocks, inodes, after, bits)
+    fields = struct.pack("<QIIII", *live.root[:4], 0) + bits.to_bytes(disk.size - 32, "little")
+    disk.flush()
+    disk.write(live.place, node(b"META", fields, disk.size))
+    disk.flush()
 
 
 class Damaged(Exception):
     pass
 
 
-def stat_root(disk, g, used):
-    first = table(*g[:2])
+def read_root(disk, live):
+    """What the root's inode says. A block is read once, and is in the cache then."""
+    first, used = table(*live.g[:2]), live.used
     if not used[0] and not used[1]:
         raise Damaged(first, 6)
     if used[0] and used[1]:
         raise Damaged(first, 7)
     place = first if used[0] else first + 1
+    block = disk.blocks[place][0] if place in live.known else disk.read(place)
+    live.known.add(place)
     try:
-        kind, size, links, _ = inode(disk.read(place))
+        return inode(block)
     except Fault as fault:
         raise Damaged(place, {"WrongSignature": 1, "WrongWord": 2}.get(str(fault), 3)) from fault
-    return b"ok 2 %s %d %d\n" % (b"fd"[kind - 1:kind], size, links)
 
 
 class Run:
     """One call of the program over objects in memory."""
 
     def __init__(self, row, words, disk_of):
-        self.status, self.tail, self.commands, self.taken, self.output = 0, "", 0, 0, b""
+        self.status, self.tail, self.commands, self.taken, self.points, self.output = 0, "", 0, 0, 0, b""
         self.row, self.writes, self.moments = row, 0, list(row.moments) or [0]
         order = order_of(words)
         self.disk = disk_of(order[1] if order else 512)
@@ -375,20 +395,36 @@ class Run:
             self.output, reply = self.output + reply[:count], reply[count:]
         return True
 
+    def moment(self):
+        """The clock's next moment. The last one stays."""
+        moment, self.moments = self.moments[0], self.moments[1:] or self.moments
+        return moment
+
     def format(self, g):
         if bad_geometry(*g) or g[1] > len(self.disk.blocks):
             self.status = 10
             return
-        moment = self.moments[0]
-        self.moments = self.moments[1:] or self.moments
-        format_disk(self.disk, g, moment)
+        format_disk(self.disk, g, self.moment())
         self.write(b"formatted %d\n" % (g[1] - table(*g[:2]) - 2 * g[2]))
 
     def run(self):
-        reason, g, used = mount(self.disk)
+        reason, live = mount(self.disk)
         if reason:
             self.status, self.tail = 8, f" reason {reason}"
             return
+        self.live, self.mask = live, 1281
+        try:
+            if self.serve() and self.mask & 1:
+                self.take_point()
+        except Damaged as damage:
+            self.status, self.tail = 6, " block %d kind %d" % damage.args
+
+    def take_point(self):
+        take_point(self.disk, self.live)
+        self.points += 1
+
+    def serve(self):
+        """Answers each line, and tells whether the script was read to its end."""
         script, piece = self.row.script, min(65536, self.row.pieces[0])
         # Reads come in turn while a line is not whole; the one that gives nothing is the end.
         given, reads, end = 0, 0, False
@@ -396,26 +432,57 @@ class Run:
             while not end and b"\n" not in script[self.taken:given]:
                 if reads in self.row.fails["source"]:
                     self.status = 3
-                    return
+                    return False
                 reads, end, given = reads + 1, given >= len(script), min(len(script), given + piece)
             line, feed, _ = script[self.taken:].partition(b"\n")
             if not line and not feed:
-                return
+                return True
             self.taken += len(line + feed)
-            try:
-                reply = stat_root(self.disk, g, used) if asks_root(line) else b"bad\n"
-            except Damaged as damage:
-                self.status, self.tail = 6, " block %d kind %d" % damage.args
-                return
-            if not self.write(reply):
-                return
+            if not self.write(self.answer(line)):
+                return False
             self.commands += 1
+
+    def answer(self, line):
+        """The reply to a line over a root directory without entries. Commands that would change it are not known here. The clock
+        is asked for each command."""
+        command = command_in(line)
+        if command is None:
+            return b"bad\n"
+        self.moment()
+        verb, words, g = command[0], dict(command[1]), self.live.g
+        if verb == "Space":
+            free, numbers = self.live.root[1:3]
+            return b"ok %d %d %d %d %d\n" % (free, free, g[1] - table(*g[:2]) - 2 * g[2], numbers, g[2])
+        if verb == "Mask":
+            return b"ok %d\n" % self.mask
+        if verb == "SetMask" and words["mask"] > 2047:
+            return b"no 22\n"
+        if verb == "SetMask":
+            self.mask = words["mask"]
+            return b"ok\n"
+        if verb == "Transact":
+            self.take_point()
+            return b"ok\n"
+        return self.answer_path(verb, words.get("path"))
+
+    def answer_path(self, verb, path):
+        if path == b"//":
+            return b"no 22\n"
+        if path and len(path) > 255:
+            return b"no 36\n"
+        kind, size, links, _ = read_root(self.disk, self.live)
+        if (verb, path) == ("Stat", b"/"):
+            return b"ok 2 %s %d %d\n" % (b"fd"[kind - 1:kind], size, links)
+        refused = {("Stat", b"/a"): 2, ("OpenFile", b"/"): 21, ("MakeDir", b"/"): 17}
+        if (verb, path) not in refused or kind != 2 or size:
+            raise Unknown(verb)
+        return b"no %d\n" % refused[verb, path]
 
     def fault_line(self):
         return f"edge: status {self.status}{self.tail}\\0a" if self.status else ""
 
     def told(self, calls=True):
-        text = f"  status {self.status}, commands {self.commands}, taken {self.taken}, points 0"
+        text = f"  status {self.status}, commands {self.commands}, taken {self.taken}, points {self.points}"
         text += f", calls {self.disk.calls}" if calls else ""
         text += f", next moment {self.moments[0]}" if self.row.moments else ""
         yield text + (", " + self.fault_line() if self.status else "")

@@ -88,11 +88,6 @@ def command_in(line):
         return None
 
 
-def asks_root(line):
-    """Whether a line spells the one command that is built."""
-    return command_in(line) == ("Stat", [("path", b"/")])
-
-
 def debug(value):
     if isinstance(value, bytes):
         return "[" + ", ".join(str(b) for b in value) + "]"

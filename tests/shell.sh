@@ -88,7 +88,7 @@ check 0 "$(printf 'ok 2 d 0 1\nbad\nbad\nok 2 d 0 1')" '' run tiny.img <lines
 check 0 '' '' run tiny.img </dev/null
 check 0 bad '' run tiny.img <line
 check 0 bad '' run tiny.img <noise
-check 0 bad '' run tiny.img <tiny.img
+check 0 bad '' run tiny.img <"$top/crates/edge/data/tiny.img"
 check 0 "$root" '' run tiny.img <<'END'
 stat /
 END
@@ -141,8 +141,64 @@ status=$?
 judge $status 'run kept.img >&-'
 cmp -s tiny.img kept.img || { failed=$((failed + 1)); echo 'a closed standard output reached the image'; }
 
-# A run changes no byte of its image.
-cmp -s tiny.img "$top/crates/edge/data/tiny.img" || { failed=$((failed + 1)); echo 'run changed the image'; }
+# changed ONE OTHER : the blocks of 512 bytes in which two images differ.
+changed() {
+	cmp -l "$1" "$2" | awk '{ block = int(($1 - 1) / 512); if (!(block in seen)) print block; seen[block] }' | tr '\n' ' '
+}
+
+# differ BLOCKS ONE OTHER : compares these blocks with those that are wanted.
+differ() {
+	[ "$(changed "$2" "$3")" = "$1" ] || { failed=$((failed + 1)); echo "$3 differs from $2 in the blocks: $(changed "$2" "$3")"; }
+}
+
+# A run that changes no file changes the metaroot that is not live, and no other block.
+cp "$top/crates/edge/data/tiny.img" fresh.img
+cp fresh.img once.img
+check 0 "$root" '' run once.img <stat
+differ '2 ' fresh.img once.img
+cp once.img twice.img
+check 0 "$root" '' run twice.img <stat
+differ '1 ' once.img twice.img
+# Without the closing point it changes no byte: where the mask has none, and where a fault has ended it.
+printf 'setmask 0\nstat /\n' >maskless
+check 0 "$(printf 'ok\nok 2 d 0 1')" '' run fresh.img <maskless
+check 3 '' 'edge: status 3' run fresh.img <folder
+cp rootless.img damaged.img
+check 6 '' 'edge: status 6 block 3 kind 1' run damaged.img <stat
+differ '' rootless.img damaged.img
+differ '' "$top/crates/edge/data/tiny.img" fresh.img
+
+# What a run leaves the next one finds, but for what came behind the last point of a run that took no closing one.
+check 0 'formatted 45' '' format kept.img -n 64 -m 8
+printf 'mkdir /d\nopen /d/f wc\nwrite 0 6869\n' >making
+printf 'open /d/f r\nread 0 4096\nread 0 1\nstat /d/f\nstat /e\n' >looking
+printf 'setmask 0\nmkdir /d\nopen /d/f wc\ntransact\nwrite 0 6869\nmkdir /e\n' >losing
+check 0 "$(printf 'ok\nok 0\nok 2')" '' run kept.img <making
+check 0 "$(printf 'ok 0\ndata 6869\nend\nok 4 f 2 1\nno 2')" '' run kept.img <looking
+check 0 'formatted 45' '' format kept.img -n 64 -m 8
+check 0 "$(printf 'ok\nok\nok 0\nok\nok 2\nok')" '' run kept.img <losing
+check 0 "$(printf 'ok 0\nend\nend\nok 4 f 0 1\nno 2')" '' run kept.img <looking
+
+# The examples, each on a fresh volume.
+for example in log config full tour; do
+	check 0 'formatted 45' '' format "$example.img" -n 64 -m 8
+	check 0 "$(cat "$top/examples/$example.replies")" '' run "$example.img" <"$top/examples/$example.script"
+done
+
+# A file has 65,535 names at most: its own in the root, and all others below 255 directories.
+awk 'BEGIN {
+	print "open /f wc"
+	for (d = 1; d <= 255; d++) print "mkdir /" d
+	for (d = 1; d <= 255; d++) for (k = 1; k <= (d < 255 ? 257 : 256); k++) print "link /f /" d "/" k
+	print "link /f /g\nstat /f\nunlink /255/1\nlink /f /g\nlink /f /h\nstat /g"
+}' >naming
+awk 'BEGIN {
+	print "ok 0"
+	for (line = 2; line <= 65790; line++) print "ok"
+	print "no 31\nok 3 f 0 65535\nok\nok\nno 31\nok 3 f 0 65535"
+}' >named
+check 0 'formatted 1445' '' format names.img -b 4096 -n 2048 -m 300
+check 0 "$(cat named)" '' run names.img -b 4096 <naming
 
 # Formats: the size of the file, the blocks that are told, and that the image runs.
 check 0 'formatted 45' '' format new.img -n 64 -m 8
@@ -180,14 +236,21 @@ wanted=5 output='' error='edge: status 5'
 judge $? 'format -b 4096 part.img -n 8 -m 1, in 14,336 bytes'
 check 8 '' 'edge: status 8 reason 1' run -b 4096 part.img <stat
 
-# What the host is asked for, where there is a tracer: one sync when the image is opened, and no flush makes up for one
-# that failed.
+# What the host is asked for, where there is a tracer: one sync when the image is opened, and two in the closing point.
+# No flush makes up for a sync that failed.
 if command -v strace >/dev/null && strace -o trace true 2>err; then
 	cp tiny.img traced.img
 	strace -o trace -e trace=fsync,fdatasync "$program" run traced.img <stat >out 2>err
 	wanted=0 output=$root error=''
 	judge $? 'run traced.img'
-	[ "$(grep -c sync trace)" -eq 1 ] || { failed=$((failed + 1)); echo 'run syncs its image another time than at opening'; }
+	[ "$(grep -c sync trace)" -eq 3 ] || { failed=$((failed + 1)); echo 'run syncs its image other than 3 times'; }
+	wanted=5 output=$root error='edge: status 5'
+	for sync in 1 2 3; do
+		strace -o trace -e trace=fsync,fdatasync -e inject=fsync,fdatasync:error=EIO:when=$sync \
+			"$program" run traced.img <stat >out 2>err
+		judge $? "run traced.img, whose sync $sync fails"
+	done
+	check 0 "$root" '' run traced.img <stat
 	wanted=5 output='' error='edge: status 5'
 	strace -o trace -e trace=fsync,fdatasync -e inject=fsync,fdatasync:error=EIO:when=1 \
 		"$program" format traced.img -n 8 -m 1 >out 2>err

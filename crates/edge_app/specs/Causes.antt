@@ -2,10 +2,11 @@
 use Rattle.std.specs.Prelude.{◌≡◌, ◌≢◌, ◌⊎◌, ◌↔◌, ℕ, ◌==◌, ◌||◌, Bool, IsTrue, List, Some, None}
 use Rattle.edge_base.specs.outside.Faults.{Rose}
 use Rattle.edge_base.specs.declared.geometry.Request.{Request}
-use Rattle.edge_base.specs.declared.node.Head.{Head}
-use Rattle.edge_disk.specs.Image.{Image}
+use Rattle.edge_disk.specs.Disk.{DiskState}
+use Rattle.edge_disk.specs.State.{shown_by}
 use Rattle.edge_image.specs.Image.{reason_of}
-use Rattle.edge_image.specs.Ready.{IsReady}
+use Rattle.edge_image.specs.Opens.{OpensTo}
+use Rattle.edge_model.specs.Tree.{Tree}
 use Rattle.edge_words.specs.Words.{Word}
 use Rattle.edge_words.specs.Orders.{Wanted, Spells}
 use Rattle.edge_app.specs.Orders.{AsksRun, AsksFormat, AsksNothing, IsUnfit}
@@ -88,9 +89,9 @@ pub record MeetsNoFault (before after : World) : Type 0 where
 -- ---- by the image
 
 -- An image is refused with its first reason, and served only without one. The damage that is told is there. Neither comes where the
--- image is ready.
-pub record JudgesImage (image : Image) (report : Report) : Type 0 where
-  pub refused : report.status ≡ NOT_A_VOLUME → reason_of image ≡ Some report.reason
-  pub served : IsTrue (is_session report.status) → reason_of image ≡ None
-  pub damaged : report.status ≡ DAMAGED → MeetsDamage image report.damage
-  pub ready : (head : Head) → IsReady image head → (report.status ≢ DAMAGED) × (report.status ≢ NOT_A_VOLUME)
+-- image opens to a tree.
+pub record JudgesImage (before after : DiskState) (report : Report) : Type 0 where
+  pub refused : report.status ≡ NOT_A_VOLUME → reason_of (shown_by before) ≡ Some report.reason
+  pub served : IsTrue (is_session report.status) → reason_of (shown_by before) ≡ None
+  pub damaged : report.status ≡ DAMAGED → MeetsDamage (shown_by before) after report.damage
+  pub opens : (t : Tree) → OpensTo (shown_by before) t → (report.status ≢ DAMAGED) × (report.status ≢ NOT_A_VOLUME)

@@ -1,17 +1,11 @@
-//! The program without its outside: the words, the script, the image, and the call `edge`.
+//! The program without its outside: the words, a script over the volume of an image, and the call
+//! `edge`.
 #![tactic(auto)]
 
-mod bitmap;
 mod format_command;
-mod found;
-mod lines;
-mod mount;
 mod program;
-mod reply;
 mod report;
 mod run_command;
-mod session;
-mod volume;
 
 pub use program::edge;
 pub use report::{

@@ -1,11 +1,11 @@
-ghost use Rattle.std.specs.Prelude.{◌≡◌, ◌≤◌, ◌++◌, length, drop, None};
-ghost use Rattle.edge_app.specs.Report.{unserved_by, unmounted_by, EndsBy, number_of, fault_line_of};
+ghost use Rattle.std.specs.Prelude.{◌≡◌, ◌≤◌, ◌++◌, length, drop};
+ghost use Rattle.edge_app.specs.Report.{unserved_by, unmounted_by, served_by, number_of, fault_line_of};
 
-use crate::mount::MountFault;
-use crate::session::{Ended, How};
 use arrayvec::ArrayString;
 use edge_base::{Damage, DamageKind};
 use edge_model::AskFault;
+use edge_point::MountFault;
+use edge_session::{Ended, How};
 use itoa::Buffer;
 
 /// How a run has ended. `docs/COMMANDS.md` has the statuses.
@@ -78,16 +78,13 @@ impl Report {
                 reason,
                 ..Report::unserved(NOT_A_VOLUME)
             },
+            MountFault::Memory => Report::unserved(MEMORY),
         }
     }
 
-    /// The report of a session that has ended.
-    pub(crate) fn served(ended: Ended) -> Report
-        ensures how { EndsBy ended.how result }
-        ensures commands { result.commands ≡ ended.commands }
-        ensures taken { result.taken ≡ ended.taken }
-        ensures points { result.points ≡ 0 }
-        ensures reason { result.reason ≡ 0 }
+    /// The report of a session that has ended, with so many points completed.
+    pub(crate) fn served(ended: Ended, points: u64) -> Report
+        ensures { result ≡ served_by ended.how ended.commands ended.taken points }
     {
         let (status, damage) = match ended.how {
             How::End => (DONE, None),
@@ -102,7 +99,7 @@ impl Report {
             reason: 0,
             commands: ended.commands,
             taken: ended.taken,
-            points: 0,
+            points,
             damage,
         }
     }

@@ -1,17 +1,19 @@
-ghost use Rattle.std.specs.Prelude.{◌≡◌, [], IfOk, false, vec_len};
-ghost use Rattle.edge_app.specs.Causes.{HasCauses, IsBeforeDisk};
+ghost use Rattle.std.specs.Prelude.{◌≡◌, false};
+ghost use Rattle.edge_app.specs.Causes.{HasCauses, IsBeforeDisk, has_no_session};
 ghost use Rattle.edge_app.specs.Runs.{Runs};
-ghost use Rattle.edge_app.specs.Stream.{pending, used_of, ended_of};
-ghost use Rattle.edge_app.specs.World.{world_with_clock};
-ghost use Rattle.edge_io.specs.States.{ClockState};
+ghost use Rattle.edge_app.specs.World.{world};
+ghost use Rattle.edge_point.specs.Mounted.{MountsPoint};
+ghost use Rattle.edge_point.specs.Seen.{state_of};
+ghost use Rattle.edge_store.specs.State.{IsMade};
 
-use crate::lines::{LONGEST_LINE, LineReader};
 use crate::report::{MEMORY, Outcome, Report};
-use crate::session::{Limit, serve};
-use crate::volume::Volume;
+use edge_calls::Volume;
 use edge_disk::Disk;
-use edge_io::{Sink, Source};
-use std::alloc::{AllocError, Global};
+use edge_io::{Clock, Sink, Source};
+use edge_model::Ask;
+use edge_point::Point;
+use edge_session::{Buffers, Limit, session};
+use std::alloc::Global;
 
 /// The lines that a session answers at most.
 pub const MOST_LINES: u32 = 4_294_967_295;
@@ -24,76 +26,61 @@ const LIMITS: Limit = Limit {
     bytes: MOST_BYTES,
 };
 
-// All the memory of a run.
-#[derive(Drop)]
-struct Buffers {
-    lines: LineReader,
-    scratch: Vec<u8>,
-    metaroot: Vec<u8>,
-    block: Vec<u8>,
-}
-
-impl Buffers {
-    fn new(alloc: Global, block_size: u32) -> Result<Buffers, AllocError>
-        ensures unused { IfOk result (λ b. used_of b.lines ≡ 0) }
-        ensures nothing_pending { IfOk result (λ b. pending b.lines ≡ []) }
-        ensures not_ended { IfOk result (λ b. ended_of b.lines ≡ false) }
-        ensures scratch { IfOk result (λ b. vec_len b.scratch ≡ 8209) }
-        ensures metaroot { IfOk result (λ b. vec_len b.metaroot ≡ block_size) }
-        ensures block { IfOk result (λ b. vec_len b.block ≡ block_size) }
-    {
-        Ok(Buffers {
-            lines: LineReader::new(alloc)?,
-            scratch: vec![in alloc; 0u8; LONGEST_LINE]?,
-            metaroot: vec![in alloc; 0u8; block_size as usize]?,
-            block: vec![in alloc; 0u8; block_size as usize]?,
-        })
+// Answers the script over a volume that was just mounted.
+fn serve<S: Source, K: Sink, C: Clock, D: Disk>(
+    point: Point<D>,
+    src: &mut S,
+    out: &mut K,
+    clock: &mut C,
+    buffers: &mut Buffers,
+) -> Outcome<D>
+    requires made { IsMade (state_of D.Disk point.parts) }
+    ensures served { (disk : D) → MountsPoint D.Disk disk point.parts
+        → HasCauses (world S.Source K.Sink C.Clock D.Disk src.old out.old clock.old disk)
+        (world S.Source K.Sink C.Clock D.Disk src.new out.new clock.new result.disk) result.report
+        × Runs (world S.Source K.Sink C.Clock D.Disk src.old out.old clock.old disk)
+        (world S.Source K.Sink C.Clock D.Disk src.new out.new clock.new result.disk) result.report }
+    ensures session { has_no_session result.report.status ≡ false }
+{
+    let mut volume = Volume::new(point);
+    let ended = session(&mut volume, src, out, clock, LIMITS, buffers);
+    let points = volume.points();
+    Outcome {
+        report: Report::served(ended, points),
+        disk: volume.end().end(),
     }
 }
 
-/// Answers the script of `src`, line by line, into `out`, over the image of the disk. It takes all
+/// Answers the script of `src`, line by line, into `out`, over the volume of the disk. It takes all
 /// its memory before the first device call.
-pub fn run_image<S: Source, K: Sink, D: Disk>(
+pub fn run_image<S: Source, K: Sink, C: Clock, D: Disk>(
     alloc: Global,
     src: &mut S,
     out: &mut K,
+    clock: &mut C,
     disk: D,
 ) -> Outcome<D>
-    // The clock is left alone, whatever it tells.
-    ensures causes { (clock : ClockState) → HasCauses
-        (world_with_clock S.Source K.Sink D.Disk clock src.old out.old disk)
-        (world_with_clock S.Source K.Sink D.Disk clock src.new out.new result.disk)
+    ensures causes { HasCauses
+        (world S.Source K.Sink C.Clock D.Disk src.old out.old clock.old disk)
+        (world S.Source K.Sink C.Clock D.Disk src.new out.new clock.new result.disk)
         result.report }
-    ensures runs { (clock : ClockState) → Runs
-        (world_with_clock S.Source K.Sink D.Disk clock src.old out.old disk)
-        (world_with_clock S.Source K.Sink D.Disk clock src.new out.new result.disk)
+    ensures runs { Runs
+        (world S.Source K.Sink C.Clock D.Disk src.old out.old clock.old disk)
+        (world S.Source K.Sink C.Clock D.Disk src.new out.new clock.new result.disk)
         result.report }
     ensures no_call { IsBeforeDisk result.report.status → result.disk ≡ disk }
 {
-    let Ok(mut buffers) = Buffers::new(alloc, disk.block_size()) else {
+    let Ok(mut buffers) = Buffers::new(alloc) else {
         return Outcome {
             report: Report::unserved(MEMORY),
             disk,
         };
     };
-    match Volume::mount(disk, buffers.metaroot, buffers.block) {
+    match Point::mount(alloc, disk) {
         Err((disk, fault)) => Outcome {
             report: Report::unmounted(fault),
             disk,
         },
-        Ok(mut volume) => {
-            let ended = serve(
-                src,
-                out,
-                &mut volume,
-                LIMITS,
-                &mut buffers.lines,
-                &mut buffers.scratch,
-            );
-            Outcome {
-                report: Report::served(ended),
-                disk: volume.into_disk(),
-            }
-        }
+        Ok(point) => serve(point, src, out, clock, &mut buffers),
     }
 }
