@@ -14,10 +14,10 @@ use edge_io::{Clock, Sink, Source};
 use edge_words::{Order, read_words};
 use std::alloc::Global;
 
-/// Runs the command that the words say. `run IMAGE` answers the script of `src`, line by line, into
-/// `out`, over the volume of the disk; it takes all its memory before the first device call. `format
-/// IMAGE` makes the disk a fresh volume at the clock's next moment. `edge_words::need` says which
-/// file the disk is over, and its block size.
+/// Runs the command that the words say. `run IMAGE` answers the script of `src`, line by line,
+/// into `out`, over the volume of the disk; it takes all its memory before the first device call.
+/// `format IMAGE` makes the disk a fresh volume at the clock's next moment. `edge_words::need` says
+/// which file the disk is over, and its block size.
 pub fn edge<S: Source, K: Sink, C: Clock, D: Disk>(
     alloc: Global,
     words: &[&str],
