@@ -222,7 +222,7 @@ module _ (g : Request) (t : Tree) (ds : Descriptors) where
       by slot room r e =
           let x : Rename = record { held = held; name = name; slot = slot; replaced = None } in
           subst (λ (y : Rename). (held ≡ y.held) × (name ≡ y.name) × IsPlacedAt g t y y.replaced) (some_same x r (ok_is (Some x) (Some r) (Ok (Some x)) refl e))
-          (refl, refl, there, room)
+          (refl, refl, (there, room))
   was_onto held name (Some found) there r is = by (found.number == held.number) refl is
     where
       by : (same : Bool) → (found.number == held.number) ≡ same
@@ -235,9 +235,9 @@ module _ (g : Request) (t : Tree) (ds : Descriptors) where
           let b = was_replaced held.number found.number a.0 a.1 in
           let x : Rename = record { held = held; name = name; slot = found.slot; replaced = Some a.0 } in
           subst (λ (y : Rename). (held ≡ y.held) × (name ≡ y.name) × IsPlacedAt g t y y.replaced) (some_same x r (ok_is (Some x) (Some r) (Ok (Some x)) refl a.2))
-          (refl, refl, there ∙ ap (λ (k : ℕ). Some (let y : Found = record { slot = found.slot; number = k } in y)) b.0,
+          (refl, refl, (there ∙ ap (λ (k : ℕ). Some (let y : Found = record { slot = found.slot; number = k } in y)) b.0,
           (λ same. eqb-false found.number held.number h (b.0 ∙ same)),
-          subst (λ (k : ℕ). is_directory t k ≡ true → is_empty (slots_at t k) ≡ true) b.0 b.1)
+          subst (λ (k : ℕ). is_directory t k ≡ true → is_empty (slots_at t k) ≡ true) b.0 b.1))
 
 pub facts : (g : Request) (t : Tree) (ds : Descriptors) (path to : List ℕ) (r : Rename) → rename_of g t ds path to ≡ Ok (Some r) → IsRenaming g t path to r
 facts g t ds path to r is =
