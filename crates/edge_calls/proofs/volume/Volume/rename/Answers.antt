@@ -8,7 +8,6 @@ use Rattle.edge_model.specs.Asked as command
 use Rattle.edge_volume.specs.Did.{Did}
 use Rattle.edge_calls.specs.State.{volume_of}
 use Rattle.edge_calls.specs.Renames.{IsReady}
-use Rattle.edge_calls.specs.declared.rename.Renaming.{Renaming}
 use Rattle.edge_calls.proofs.RenameLaws.{IsTold, rename_stopped, rename_judging, rename_unfit, rename_faulted, rename_ended, rename_done, same_done, same_ended}
 use Rattle.edge_calls.proofs.RenameReadyLaws.{ready_still}
 use Rattle.edge_calls.proofs.RoomLaws.{IsLooked}
@@ -73,7 +72,7 @@ returns-in_err-has_room g c = record {
       let told = c.in_ok-renaming.ensures in
       let b = g.S.Store.state c.renaming_of.new.s in
       let looked : IsLooked old.store b = record { ends = told.looks.ends; point = told.looks.point; working = told.looks.reads refl } in
-      let r : Renaming = record { change = c.in-Some.change; name = c.in-Some.name } in
+      let r = c.in-Some.moving in
       let moves = subst (λ m. IsTold path to old out (Ok m)) c.in-Some.is told.renaming in
       let limits = subst IsWithinLimits (c.geometry.ensures ∙ ap (λ (o : Origin). o.request) told.looks.ends.origin) c.request-within_limits.ensures.limits in
       let last = volume_of g.S.Store (record x { store = c.has_room.new.s }) in
@@ -94,7 +93,7 @@ returns-then-not-branch g c = record {
       let told = c.in_ok-renaming.ensures in
       let b = g.S.Store.state c.renaming_of.new.s in
       let looked : IsLooked old.store b = record { ends = told.looks.ends; point = told.looks.point; working = told.looks.reads refl } in
-      let r : Renaming = record { change = c.in-Some.change; name = c.in-Some.name } in
+      let r = c.in-Some.moving in
       let moves = subst (λ m. IsTold path to old out (Ok m)) c.in-Some.is told.renaming in
       let limits = subst IsWithinLimits (c.geometry.ensures ∙ ap (λ (o : Origin). o.request) told.looks.ends.origin) c.request-within_limits.ensures.limits in
       let last = volume_of g.S.Store (record x { store = c.has_room.new.s }) in
@@ -107,7 +106,7 @@ pub move_name-requires-clause-node : goal.move_name-requires-clause-node
 move_name-requires-clause-node g c =
     let b = g.S.Store.state c.renaming_of.new.s in
     let room = c.in_ok-has_room.ensures in
-    let r : Renaming = record { change = c.in-Some.change; name = c.in-Some.name } in
+    let r = c.in-Some.moving in
     (ready_still b (g.S.Store.state c.has_room.new.s) room.ends room.reads r (subst (λ m. IfSome m (IsReady b)) c.in-Some.is c.in_ok-renaming.ensures.ready)).node
 
 pub returns-in_err-move_name : goal.returns-in_err-move_name
@@ -120,7 +119,7 @@ returns-in_err-move_name g c = record {
       let told = c.in_ok-renaming.ensures in
       let b = g.S.Store.state c.renaming_of.new.s in
       let looked : IsLooked old.store b = record { ends = told.looks.ends; point = told.looks.point; working = told.looks.reads refl } in
-      let r : Renaming = record { change = c.in-Some.change; name = c.in-Some.name } in
+      let r = c.in-Some.moving in
       let moves = subst (λ m. IsTold path to old out (Ok m)) c.in-Some.is told.renaming in
       let limits = subst IsWithinLimits (c.geometry.ensures ∙ ap (λ (o : Origin). o.request) told.looks.ends.origin) c.request-within_limits.ensures.limits in
       let room = c.in_ok-has_room.ensures in
@@ -144,7 +143,7 @@ returns-in_err-take_point-2 g c = record {
       let told = c.in_ok-renaming.ensures in
       let b = g.S.Store.state c.renaming_of.new.s in
       let looked : IsLooked old.store b = record { ends = told.looks.ends; point = told.looks.point; working = told.looks.reads refl } in
-      let r : Renaming = record { change = c.in-Some.change; name = c.in-Some.name } in
+      let r = c.in-Some.moving in
       let moves = subst (λ m. IsTold path to old out (Ok m)) c.in-Some.is told.renaming in
       let limits = subst IsWithinLimits (c.geometry.ensures ∙ ap (λ (o : Origin). o.request) told.looks.ends.origin) c.request-within_limits.ensures.limits in
       let room = c.in_ok-has_room.ensures in
@@ -171,7 +170,7 @@ returns g c = record {
       let told = c.in_ok-renaming.ensures in
       let b = g.S.Store.state c.renaming_of.new.s in
       let looked : IsLooked old.store b = record { ends = told.looks.ends; point = told.looks.point; working = told.looks.reads refl } in
-      let r : Renaming = record { change = c.in-Some.change; name = c.in-Some.name } in
+      let r = c.in-Some.moving in
       let moves = subst (λ m. IsTold path to old out (Ok m)) c.in-Some.is told.renaming in
       let limits = subst IsWithinLimits (c.geometry.ensures ∙ ap (λ (o : Origin). o.request) told.looks.ends.origin) c.request-within_limits.ensures.limits in
       let room = c.in_ok-has_room.ensures in
