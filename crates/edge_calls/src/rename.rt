@@ -233,8 +233,12 @@ fn moved_into<'a>(
     slot: u64,
     replaced: Option<NamedNode>,
 ) -> Renaming<'a>
-    ensures change { result.change ≡ record { node = named.node; from = named.at;
-        to = record { dir = wanted.entry.dir; slot = slot }; replaced = replaced } }
+    ensures change { result.change ≡ record {
+      node = named.node;
+      from = named.at;
+      to = record { dir = wanted.entry.dir; slot = slot };
+      replaced = replaced;
+    } }
     ensures name { result.name ≡ wanted.entry.name }
 {
     let to = SlotAt {
