@@ -51,7 +51,7 @@ module _ (path to : List ℕ) (old : VolumeState) (out : List ℕ) where
   abbrev pub IsLinked : Result NewLink Refusal → Type 0
   IsLinked r = OnTree old.store (λ t. r ≡ link_of (request_of old) t path to)
 
-  planned_by : (r : Result NewLink Refusal) → IsLinked r → (s : State) → VolumeStands old s → plan (request_of old) s asked ≡ (r >>= λ x. Ok (link_plan (request_of old) s x))
+  pub planned_by : (r : Result NewLink Refusal) → IsLinked r → (s : State) → VolumeStands old s → plan (request_of old) s asked ≡ (r >>= λ x. Ok (link_plan (request_of old) s x))
   planned_by r told s stands =
       by_link (request_of old) s path to ∙ ap (λ (q : Result NewLink Refusal). q >>= λ x. Ok (link_plan (request_of old) s x)) (sym (told s stands.store stands.session.trees.tree))
 

@@ -23,8 +23,17 @@ use Rattle.edge_model.proofs.WalkLaws.{walk_in_directory}
 use Rattle.edge_names.specs.Linked.{linked}
 use Rattle.edge_steps.proofs.PlanLaws.{found_there}
 use Rattle.edge_steps.proofs.WalkLaws.{after_part, after_test}
-use Rattle.edge_calls.specs.Links.{NewLink, file_at, link_of}
-use Rattle.edge_calls.specs.Makes.{NewName, is_behind, vacancy_of}
+use Rattle.edge_store.specs.declared.store.Store.{Ghosts as StoreGhosts}
+use Rattle.edge_volume.specs.declared.stop.Stop.{Stop}
+use Rattle.edge_volume.specs.declared.stop.Stop.TheVariants.{Refused, Fault}
+use Rattle.edge_volume.specs.Nodes.{OnTree}
+use Rattle.edge_volume.specs.Parts.{Looks}
+use Rattle.edge_volume.specs.Stopped.{IfAnswered}
+use Rattle.edge_walk.proofs.StillLaws.{on_tree_before}
+use Rattle.edge_calls.specs.declared.link.Linking.{Linking}
+use Rattle.edge_calls.specs.declared.vacant.Vacancy.{Vacancy}
+use Rattle.edge_calls.specs.Links.{NewLink, file_at, link_in, link_of, vacancy_at}
+use Rattle.edge_calls.specs.Makes.{NewName, is_behind, vacancy_of, vacated}
 
 -- the plan of a file that gets a further name
 abbrev pub link_plan : Request → State → NewLink → Plan
@@ -36,10 +45,11 @@ module _ (g : Request) (s : State) where
   spot_plan n spot =
       refuse_if (is_some (at_spot s.tree spot)) refusal.Exists >>= λ _. refuse_if (nat_le 65535 (links_of g s.tree n)) refusal.TooManyLinks >>= λ _. link_at g s n spot
 
+  abbrev name_link : ℕ → NewName → Result NewLink Refusal
+  name_link n at = refuse_if (nat_le 65535 (links_of g s.tree n)) refusal.TooManyLinks >>= λ _. refuse_if (is_behind g at.slot) refusal.TooBig >>= λ _. Ok (record { number = n; at = at })
+
   abbrev spot_link : ℕ → Spot → Result NewLink Refusal
-  spot_link n spot =
-      vacancy_of s.tree spot >>= λ at. refuse_if (nat_le 65535 (links_of g s.tree n)) refusal.TooManyLinks >>= λ _. refuse_if (is_behind g at.slot) refusal.TooBig
-      >>= λ _. Ok (record { number = n; at = at })
+  spot_link n spot = vacancy_of s.tree spot >>= name_link n
 
   by_spot : (n : ℕ) (spot : Spot) → spot_plan n spot ≡ (spot_link n spot >>= λ x. Ok (link_plan g s x))
   by_spot n top = refl
@@ -57,7 +67,7 @@ module _ (g : Request) (s : State) where
   file_plan to found = refuse_if (is_directory s.tree found.number) refusal.IsDir >>= λ _. to >>= λ spot. spot_plan found.number spot
 
   abbrev file_link : Result Spot Refusal → Result ℕ Refusal → Result Plan Refusal
-  file_link to file = (file >>= λ n. to >>= λ spot. spot_link n spot) >>= λ x. Ok (link_plan g s x)
+  file_link to file = (file >>= λ n. (to >>= vacancy_of s.tree) >>= name_link n) >>= λ x. Ok (link_plan g s x)
 
   by_kind : (found : Found) (b : Bool) (to : Result Spot Refusal)
       → (refuse_if b refusal.IsDir >>= λ _. to >>= λ spot. spot_plan found.number spot) ≡ file_link to (refuse_if b refusal.IsDir >>= λ _. Ok found.number)
@@ -78,10 +88,26 @@ module _ (g : Request) (s : State) where
       by : (both : Result (Unit {0}) Refusal) (from at : Result Spot Refusal)
           → (both >>= λ _. from >>= λ x. or_refuse (at_spot s.tree x) refusal.NoEntry >>= file_plan at)
           ≡ ((both >>= λ _. (from >>= λ x. or_refuse (at_spot s.tree x) refusal.NoEntry >>= λ found. refuse_if (is_directory s.tree found.number) refusal.IsDir >>= λ _. Ok found.number)
-          >>= λ n. at >>= λ spot. spot_link n spot) >>= λ x. Ok (link_plan g s x))
+          >>= λ n. (at >>= vacancy_of s.tree) >>= name_link n) >>= λ x. Ok (link_plan g s x))
       by (Err e) from at = refl
       by (Ok u) (Err e) at = refl
       by (Ok u) (Ok x) at = by_found (at_spot s.tree x) at
+
+-- ---- a link, by what was found
+
+module _ (g : Request) (t : Tree) (path to : List ℕ) (both : two_paths g.name_max path to ≡ Ok tt) (n : ℕ) (file : Ok n ≡ file_at t (names_in path)) where
+  pub link_without_place : (e : Refusal) → Err e ≡ vacancy_at t (names_in to) → Err e ≡ link_of g t path to
+  link_without_place e is = rw (both, sym file, sym is) refl
+
+  module _ (at : NewName) (is : Ok at ≡ vacancy_at t (names_in to)) where
+    pub link_too_many : nat_le 65535 (links_of g t n) ≡ true → Err refusal.TooManyLinks ≡ link_of g t path to
+    link_too_many many = rw (both, sym file, sym is, many) refl
+
+    pub link_behind : nat_le 65535 (links_of g t n) ≡ false → is_behind g at.slot ≡ true → Err refusal.TooBig ≡ link_of g t path to
+    link_behind few behind = rw (both, sym file, sym is, few, behind) refl
+
+    pub link_is : nat_le 65535 (links_of g t n) ≡ false → is_behind g at.slot ≡ false → Ok (record { number = n; at = at }) ≡ link_of g t path to
+    link_is few inside = rw (both, sym file, sym is, few, inside) refl
 
 -- ---- what a link says of the tree
 
@@ -119,11 +145,11 @@ pub link_may : (g : Request) (t : Tree) (path to : List ℕ) (x : NewLink) → I
 link_may g t path to x tree is =
     let a = after_part (two_paths g.name_max path to) _ x (sym is) in
     let f = after_part (file_at t (names_in path)) _ x a.2 in
-    let w = after_part (walk t (names_in to)) _ x f.2 in
-    let v = after_part (vacancy_of t w.0) _ x w.2 in
+    let v = after_part (vacancy_at t (names_in to)) _ x f.2 in
+    let w = after_part (walk t (names_in to)) _ v.0 v.1 in
     let m = after_test (nat_le 65535 (links_of g t f.0)) refusal.TooManyLinks _ x v.2 in
     let b = after_test (is_behind g (v.0).slot) refusal.TooBig _ x m.1 in
-    let at = vacancy_is t w.0 v.0 v.1 in
+    let at = vacancy_is t w.0 v.0 w.2 in
     let file = file_there g t (names_in path) f.0 tree f.1 in
     subst (λ (y : NewLink). MayLinkAt g t y.number y.at.d y.at.slot) (ok_is (record { number = f.0; at = v.0 }) x _ refl b.1) (record {
       there = file.0;
@@ -131,3 +157,13 @@ link_may g t path to x tree is =
       directory = walk_in_directory t (names_in to) (v.0).d (v.0).name (w.1 ∙ ap Ok at.0);
       room = inside_room g t (v.0).d (v.0).slot at.1 b.0;
     })
+
+-- a is the store as the paths were read and b the store as the file was found
+module _ {A : Type 0} (S : StoreGhosts A) (a b : A) (looks : Looks S None a b) (path to : List ℕ) (both : two_paths (S.state a).origin.request.name_max path to ≡ Ok tt)
+    (n : ℕ) (file : OnTree (S.state a) (λ t. Ok n ≡ file_at t (names_in path))) where
+  pub link_unplaced : (stop : Stop) → IfAnswered {T = Vacancy} (Err stop) (λ r. OnTree (S.state b) (λ t. vacated r ≡ vacancy_at t (names_in to)))
+      → IfAnswered {T = Linking} (Err stop) (λ r. OnTree (S.state a) (λ t. link_in r ≡ link_of (S.state a).origin.request t path to))
+  link_unplaced (Refused e) is = λ z stands tree.
+      link_without_place (S.state a).origin.request z.tree path to both n (file z stands tree) e
+      (on_tree_before S a b looks (λ t. Err e ≡ vacancy_at t (names_in to)) is z stands tree)
+  link_unplaced (Fault fault) is = tt

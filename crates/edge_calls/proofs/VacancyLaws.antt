@@ -1,7 +1,7 @@
 -- Where a new name goes, by what was found, in the words of the tree.
-use Rattle.std.proofs.Common.{◌≡◌, ◌∙◌, ℕ, ◌+◌, not, Bool, true, false, cond, List, [], ◌∷◌, count_by, find, is_some, refl, sym, ap, arith, Option, Some, None}
+use Rattle.std.proofs.Common.{◌≡◌, ◌↔◌, ◌∙◌, ℕ, not, Bool, true, false, cond, List, [], ◌∷◌, length, filter, find, is_some, refl, sym, ap, arith, Option, Some, None}
 use Rattle.std.specs.Prelude.{Result, Ok, Err}
-use Rattle.std.proofs.lemmas.List.Recursion.{is_count_by}
+use Rattle.std.proofs.lemmas.List.Sums.{length-filter}
 use Rattle.edge_base.specs.commands.Descriptors.{first_empty}
 use Rattle.edge_base.specs.commands.Refusals.{◌>>=◌, refuse_if, or_refuse}
 use Rattle.edge_base.specs.declared.geometry.Request.{Request}
@@ -35,34 +35,15 @@ module _ (t : Tree) (d : ℕ) (name : List ℕ) where
 
 -- ---- numbers that have no node
 
-abbrev counted : (ℕ → Bool) → List ℕ → ℕ
-counted test [] = 0
-counted test (x ∷ xs) = cond (test x) (1 + counted test xs) (counted test xs)
-
-counted_is : (test : ℕ → Bool) (xs : List ℕ) → counted test xs ≡ count_by test xs
-counted_is test xs = is_count_by (counted test) test refl (λ x xs. refl) xs
-
-none_passes : (test : ℕ → Bool) (xs : List ℕ) → counted test xs ≡ 0 → find test xs ≡ None
-none_passes test [] none = refl
-none_passes test (x ∷ xs) none = by (test x) none (none_passes test xs)
+-- none passes a test where none is found, and the other way round
+none_left : (test : ℕ → Bool) (xs : List ℕ) → (length (filter test xs) ≡ 0) ↔ (find test xs ≡ None)
+none_left test [] = ((λ none. refl), (λ none. refl))
+none_left test (x ∷ xs) = by (test x) (none_left test xs)
   where
-    by : (b : Bool) → cond b (1 + counted test xs) (counted test xs) ≡ 0 → (counted test xs ≡ 0 → find test xs ≡ None) → cond b (Some x) (find test xs) ≡ None
-    by true none below = absurd (omega arith)
-    by false none below = below none
-
-no_count : (test : ℕ → Bool) (xs : List ℕ) → find test xs ≡ None → counted test xs ≡ 0
-no_count test [] none = refl
-no_count test (x ∷ xs) none = by (test x) none (no_count test xs)
-  where
-    by : (b : Bool) → cond b (Some x) (find test xs) ≡ None → (find test xs ≡ None → counted test xs ≡ 0) → cond b (1 + counted test xs) (counted test xs) ≡ 0
-    by true none below = absurd (cc)
-    by false none below = below none
-
-none_counted : (test : ℕ → Bool) (xs : List ℕ) → count_by test xs ≡ 0 → find test xs ≡ None
-none_counted test xs none = none_passes test xs (counted_is test xs ∙ none)
-
-none_found : (test : ℕ → Bool) (xs : List ℕ) → find test xs ≡ None → count_by test xs ≡ 0
-none_found test xs none = sym (counted_is test xs) ∙ no_count test xs none
+    by : (b : Bool) → (length (filter test xs) ≡ 0) ↔ (find test xs ≡ None)
+        → (length (cond b (x ∷ filter test xs) (filter test xs)) ≡ 0) ↔ (cond b (Some x) (find test xs) ≡ None)
+    by true rest = ((λ (none : length (x ∷ filter test xs) ≡ 0). absurd (omega (arith, none))), (λ (none : Some x ≡ None). absurd (cc)))
+    by false rest = rest
 
 abbrev free_in : Reply → ℕ
 free_in (room r) = r.free_inodes
@@ -74,14 +55,18 @@ numbers_are g c w s stands = ap free_in (space_is g c w s stands)
 
 module _ (g : Request) (c w : View) (s : State) (stands : StandForState g c w s) where
   none_is_free : free_inodes g w ≡ 0 → free_number g s.tree ≡ None
-  none_is_free none = none_counted (λ n. not (is_some (s.tree n))) (numbers_of g) (numbers_are g c w s stands ∙ none)
+  none_is_free none =
+      let test : ℕ → Bool = λ n. not (is_some (s.tree n)) in
+      (none_left test (numbers_of g)).0 (length-filter test (numbers_of g) ∙ numbers_are g c w s stands ∙ none)
 
   some_is_free : (free_inodes g w ≡ 0 → ⊥) → (n : ℕ) × (free_number g s.tree ≡ Some n)
   some_is_free some = by (free_number g s.tree) refl
     where
       by : (o : Option ℕ) → free_number g s.tree ≡ o → (n : ℕ) × (free_number g s.tree ≡ Some n)
       by (Some n) is = (n, is)
-      by None is = absurd (some (sym (numbers_are g c w s stands) ∙ none_found (λ n. not (is_some (s.tree n))) (numbers_of g) is))
+      by None is =
+          let test : ℕ → Bool = λ n. not (is_some (s.tree n)) in
+          absurd (some (sym (numbers_are g c w s stands) ∙ sym (length-filter test (numbers_of g)) ∙ (none_left test (numbers_of g)).1 is))
 
 -- so many numbers are told to be free after some reading
 module _ {A : Type 0} (S : StoreGhosts A) (a b : A) (looks : Looks S None a b) (n : ℕ) (told : AreFreeInodes (S.state b) n) (z : State) (stands : StoreStands (S.state a) z) where

@@ -24,6 +24,12 @@ abbrev pub file_in : Result File Refusal → Result ℕ Refusal
 file_in (Ok file) = Ok file.n
 file_in (Err e) = Err e
 
+-- where the name goes that is the last of a path's
+abbrev pub vacancy_at : Tree → List (List ℕ) → Result NewName Refusal
+vacancy_at t names = do
+  spot ← walk t names
+  vacancy_of t spot
+
 -- a file, and the further name that it gets
 pub record NewLink : Type 0 where
   pub number : ℕ
@@ -38,8 +44,7 @@ abbrev pub link_of : Request → Tree → List ℕ → List ℕ → Result NewLi
 link_of g t path to = do
   _ ← two_paths g.name_max path to
   n ← file_at t (names_in path)
-  spot ← walk t (names_in to)
-  at ← vacancy_of t spot
+  at ← vacancy_at t (names_in to)
   _ ← refuse_if (nat_le 65535 (links_of g t n)) refusal.TooManyLinks
   _ ← refuse_if (is_behind g at.slot) refusal.TooBig
   Ok (record { number = n; at = at })

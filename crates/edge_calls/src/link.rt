@@ -9,8 +9,10 @@ ghost use Rattle.edge_volume.specs.Parts.{Looks, IsOfNoDamage};
 ghost use Rattle.edge_volume.specs.Stopped.{fault_of, IfAnswered};
 ghost use Rattle.edge_volume.specs.Did.{Did};
 ghost use Rattle.edge_walk.specs.Reached.{IsHolder};
+ghost use Rattle.edge_walk.specs.Spots.{AreShort};
 ghost use Rattle.edge_calls.specs.State.{volume_of};
-ghost use Rattle.edge_calls.specs.Links.{file_at, file_in, link_in, link_of};
+ghost use Rattle.edge_calls.specs.Links.{file_at, file_in, link_in, link_of, vacancy_at};
+ghost use Rattle.edge_calls.specs.Makes.{vacated};
 
 use crate::vacant::{Vacancy, is_behind, vacant_at};
 use crate::volume::Volume;
@@ -70,6 +72,21 @@ fn file_at<S: Store>(s: &mut S, names: PathNames<'_>) -> Result<File, Stop>
     }
 }
 
+/// The slot that the name takes that is the last of a path's.
+fn name_at<'a, S: Store>(s: &mut S, names: PathNames<'a>) -> Result<Vacancy<'a>, Stop>
+    requires live { IsLive (S.state s.old) }
+    ensures looks { Looks S.Store (fault_of result) s.old s.new }
+    ensures undamaged { OnTree (S.state s.old) (λ t. IsOfNoDamage (fault_of result)) }
+    ensures vacancy { IfAnswered result (λ r.
+        OnTree (S.state s.old) (λ t. vacated r ≡ vacancy_at t names.entry)) }
+    ensures holder { IfOk result (λ at. IsHolder (S.state s.new) at.d) }
+    ensures short { AreShort (S.state s.old).origin.request names.entry
+        → IfOk result (λ at. length at.name.now ≤ (S.state s.old).origin.request.name_max) }
+{
+    let spot = locate(s, names)?;
+    vacant_at(s, spot)
+}
+
 /// The file at one path that gets a name at another, and where that name goes.
 fn link_at<'a, S: Store>(s: &mut S, path: &[u8], to: &'a [u8]) -> Result<Linking<'a>, Stop>
     requires live { IsLive (S.state s.old) }
@@ -89,8 +106,7 @@ fn link_at<'a, S: Store>(s: &mut S, path: &[u8], to: &'a [u8]) -> Result<Linking
     let name_max = s.geometry().request().name_max;
     let (from, to) = two_parts(path, to, name_max)?;
     let file = file_at(s, from)?;
-    let spot = locate(s, to)?;
-    let at = vacant_at(s, spot)?;
+    let at = name_at(s, to)?;
     if file.head.links >= MOST_LINKS {
         return Err(Stop::Refused(Refusal::TooManyLinks));
     }
@@ -109,7 +125,9 @@ impl<S: Store> Volume<S> {
             (volume_of S.Store self.old) (volume_of S.Store self.new) out }
     {
         let _within_limits = self.store.geometry().request();
-        let Linking { file, at } = link_at(&mut self.store, path, to)?;
+        let link = link_at(&mut self.store, path, to)?;
+        let file = link.file;
+        let at = link.at;
         let put = SlotAt {
             dir: at.d,
             slot: at.slot,

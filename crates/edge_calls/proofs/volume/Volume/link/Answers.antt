@@ -5,28 +5,29 @@ use Rattle.edge_base.specs.commands.Events as event
 use Rattle.edge_base.specs.layout.Places.{IsWithinLimits}
 use Rattle.edge_model.specs.Asked as command
 use Rattle.edge_volume.specs.Did.{Did}
+use Rattle.edge_volume.proofs.NodeLaws.{node_still}
 use Rattle.edge_calls.specs.State.{volume_of}
 use Rattle.edge_calls.proofs.LinkLaws.{link_stopped, link_judging, link_unfit, link_faulted, link_ended, link_done}
 use Rattle.edge_calls.proofs.volume.Volume.link.Goals as goal
 
-pub returns-in_err-x : goal.returns-in_err-x
-returns-in_err-x g c = record {
+pub returns-in_err-link : goal.returns-in_err-link
+returns-in_err-link g c = record {
   did = λ out.
       let old = volume_of g.S.Store c.args.self.now in
       let last = volume_of g.S.Store (record c.args.self.now { store = c.link_at.new.s }) in
-      let told = c.in_err-x.ensures in
+      let told = c.in_err-link.ensures in
       let e = err_from_is_err_and c.from_residual.result c.from_residual.ensures.1 in
       subst (λ r. Did (command.link c.args.path.now c.args.to.now) r old last out) (sym (e.1 ∙ ap Err e.2))
-      (link_stopped c.args.path.now c.args.to.now old out c.in_err-x.field-0.0 last refl refl told.looks.ends told.looks.point told.looks.reads told.undamaged told.link);
+      (link_stopped c.args.path.now c.args.to.now old out c.in_err-link.field-0.0 last refl refl told.looks.ends told.looks.point told.looks.reads told.undamaged told.link);
 }
 
 pub returns-in_err-has_room : goal.returns-in_err-has_room
 returns-in_err-has_room g c = record {
   did = λ out.
       let old = volume_of g.S.Store c.args.self.now in
-      let told = c.in_ok-x.ensures in
-      let file = c.in_ok-x.file in
-      let at = c.in_ok-x.at in
+      let told = c.in_ok-link.ensures in
+      let file = c.in_ok-link.link.file in
+      let at = c.in_ok-link.link.at in
       let b = g.S.Store.state c.link_at.new.s in
       let last = volume_of g.S.Store (record c.args.self.now { store = c.has_room.new.s }) in
       let room = c.in_err-has_room.ensures in
@@ -42,9 +43,9 @@ pub returns-then-not-branch : goal.returns-then-not-branch
 returns-then-not-branch g c = record {
   did = λ out.
       let old = volume_of g.S.Store c.args.self.now in
-      let told = c.in_ok-x.ensures in
-      let file = c.in_ok-x.file in
-      let at = c.in_ok-x.at in
+      let told = c.in_ok-link.ensures in
+      let file = c.in_ok-link.link.file in
+      let at = c.in_ok-link.link.at in
       let b = g.S.Store.state c.link_at.new.s in
       let last = volume_of g.S.Store (record c.args.self.now { store = c.has_room.new.s }) in
       let room = c.in_ok-has_room.ensures in
@@ -54,13 +55,18 @@ returns-then-not-branch g c = record {
       last refl refl room.ends room.most room.judged (λ z command p. sym c.if-not-branch.true ∙ room.fits z command p);
 }
 
+pub add_name-requires-clause-node : goal.add_name-requires-clause-node
+add_name-requires-clause-node g c =
+    let file = c.in_ok-link.link.file in
+    node_still (g.S.Store.state c.link_at.new.s) (g.S.Store.state c.has_room.new.s) file.n file.head c.in_ok-has_room.ensures.ends c.in_ok-has_room.ensures.reads c.in_ok-link.ensures.node
+
 pub returns-in_err-add_name : goal.returns-in_err-add_name
 returns-in_err-add_name g c = record {
   did = λ out.
       let old = volume_of g.S.Store c.args.self.now in
-      let told = c.in_ok-x.ensures in
-      let file = c.in_ok-x.file in
-      let at = c.in_ok-x.at in
+      let told = c.in_ok-link.ensures in
+      let file = c.in_ok-link.link.file in
+      let at = c.in_ok-link.link.at in
       let b = g.S.Store.state c.link_at.new.s in
       let mid = volume_of g.S.Store (record c.args.self.now { store = c.has_room.new.s }) in
       let room = c.in_ok-has_room.ensures in
@@ -79,9 +85,9 @@ pub returns-in_err-take_point : goal.returns-in_err-take_point
 returns-in_err-take_point g c = record {
   did = λ out.
       let old = volume_of g.S.Store c.args.self.now in
-      let told = c.in_ok-x.ensures in
-      let file = c.in_ok-x.file in
-      let at = c.in_ok-x.at in
+      let told = c.in_ok-link.ensures in
+      let file = c.in_ok-link.link.file in
+      let at = c.in_ok-link.link.at in
       let b = g.S.Store.state c.link_at.new.s in
       let mid = volume_of g.S.Store (record c.args.self.now { store = c.has_room.new.s }) in
       let room = c.in_ok-has_room.ensures in
@@ -103,9 +109,9 @@ pub returns : goal.returns
 returns g c = record {
   did = λ out.
       let old = volume_of g.S.Store c.args.self.now in
-      let told = c.in_ok-x.ensures in
-      let file = c.in_ok-x.file in
-      let at = c.in_ok-x.at in
+      let told = c.in_ok-link.ensures in
+      let file = c.in_ok-link.link.file in
+      let at = c.in_ok-link.link.at in
       let b = g.S.Store.state c.link_at.new.s in
       let mid = volume_of g.S.Store (record c.args.self.now { store = c.has_room.new.s }) in
       let room = c.in_ok-has_room.ensures in
