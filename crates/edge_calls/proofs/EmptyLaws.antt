@@ -1,5 +1,5 @@
 -- What open does with a file that it makes empty, at each end.
-use Rattle.std.proofs.Common.{◌≡◌, ◌∙◌, ℕ, ◌<◌, ◌≤◌, ◌+◌, ◌-◌, ◌/◌, ◌%◌, ◌==◌, ◌&&◌, not, nat_le, nat_lt, Bool, true, false, cond, List, [], ◌∷◌, length, map, filter, replicate, refl, sym, ap, subst, arith, unwrap_or, Option, Some, None}
+use Rattle.std.proofs.Common.{◌≡◌, ◌∙◌, ℕ, ◌<◌, ◌≤◌, ◌+◌, ◌-◌, ◌/◌, ◌==◌, ◌&&◌, not, nat_le, nat_lt, Bool, true, false, cond, List, [], ◌∷◌, length, map, filter, replicate, refl, sym, ap, subst, arith, unwrap_or, Option, Some, None}
 use Rattle.std.specs.Prelude.{Ok, Err}
 use Rattle.std.specs.List.{range_with_len}
 use Rattle.std.proofs.lemmas.Bool.{le-leb}
@@ -21,7 +21,6 @@ use Rattle.edge_tree.specs.Own.{UndamagedIf}
 use Rattle.edge_moves.proofs.SlotLaws.{some_pointers_fit}
 use Rattle.edge_file.specs.Writing.{RoomForSize, IsNodeSized, ShortensTo, LengthensTo, LengthensHead, SetsSize}
 use Rattle.edge_file.proofs.StepLaws.{some_bytes}
-use Rattle.edge_space.specs.declared.change.Change.{Change}
 use Rattle.edge_space.specs.declared.change.Change.TheVariants.{Size}
 use Rattle.edge_model.specs.declared.command.Answer.TheVariants as a
 use Rattle.edge_model.specs.declared.command.OpenFlags.{OpenFlags}

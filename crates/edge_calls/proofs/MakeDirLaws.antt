@@ -1,9 +1,8 @@
 -- What mkdir does, at each of its ends.
-use Rattle.std.proofs.Common.{◌≡◌, ◌∙◌, ℕ, ◌+◌, ◌/◌, ◌<◌, ◌≤◌, Bool, true, false, List, [], ◌∷◌, refl, sym, ap, subst, Option, Some, None}
+use Rattle.std.proofs.Common.{◌≡◌, ◌∙◌, ℕ, ◌+◌, ◌/◌, ◌<◌, Bool, true, false, List, [], refl, sym, ap, subst, Option, Some, None}
 use Rattle.std.specs.Prelude.{Result, Ok, Err}
 use Rattle.edge_base.specs.commands.Descriptors.{first_empty}
 use Rattle.edge_base.specs.commands.Events as event
-use Rattle.edge_base.specs.declared.geometry.Request.{Request}
 use Rattle.edge_base.specs.declared.node.NodeType.TheVariants.{Directory}
 use Rattle.edge_base.specs.declared.refusal.Refusal.{Refusal}
 use Rattle.edge_base.specs.declared.refusal.Refusal.TheVariants as refusal

@@ -1,5 +1,5 @@
 -- What the place of a new node's name says of the plan that makes the node.
-use Rattle.std.proofs.Common.{◌≡◌, ◌∙◌, ℕ, ◌/◌, Bool, true, false, List, [], ◌∷◌, is_some, refl, sym, ap, subst, Option, Some, None}
+use Rattle.std.proofs.Common.{◌≡◌, ◌∙◌, ℕ, Bool, true, false, List, [], ◌∷◌, is_some, refl, sym, ap, subst, Option, Some, None}
 use Rattle.std.specs.Prelude.{Result, Ok, Err}
 use Rattle.edge_base.specs.commands.Descriptors.{first_empty}
 use Rattle.edge_base.specs.commands.Events as event
@@ -13,9 +13,9 @@ use Rattle.edge_model.specs.Asked.{done}
 use Rattle.edge_model.specs.Named as tree
 use Rattle.edge_model.specs.Named.{new_name, placed, slot_position}
 use Rattle.edge_model.specs.Names.{plan_make_dir, make_dir_at}
-use Rattle.edge_model.specs.State.{State, Plan, Edit, changes}
+use Rattle.edge_model.specs.State.{State, Plan, changes}
 use Rattle.edge_model.specs.Step.{plan}
-use Rattle.edge_model.specs.Tree.{Tree, free_number, is_directory, slots_at, with_node}
+use Rattle.edge_model.specs.Tree.{Tree, free_number, slots_at, with_node}
 use Rattle.edge_model.specs.Walk.{Spot, Found, top, within, at_spot, find_name, spot_of}
 use Rattle.edge_model.proofs.Plans.{err_is_not_ok}
 use Rattle.edge_calls.specs.Makes.{NewName, is_behind, node_place, node_place_at}

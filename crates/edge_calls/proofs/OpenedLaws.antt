@@ -1,10 +1,8 @@
 -- What open does, at its ends that change no tree, and the descriptor that it enters.
-use Rattle.std.proofs.Common.{◌≡◌, ◌∙◌, ℕ, ◌<◌, Bool, true, false, List, is_some, unwrap_or, slice_set, refl, sym, ap, subst, Option, Some, None}
-use Rattle.std.specs.Prelude.{slice_get, Result, Ok, Err}
+use Rattle.std.proofs.Common.{◌≡◌, ◌∙◌, ℕ, Bool, true, false, List, is_some, unwrap_or, refl, sym, ap, Option, Some, None}
+use Rattle.std.specs.Prelude.{slice_get, Ok, Err}
 use Rattle.std.proofs.lemmas.Bool.{leb-false}
 use Rattle.edge_base.specs.commands.Descriptors.{Descriptor, Descriptors, first_empty, is_full, most_open}
-use Rattle.edge_base.specs.declared.refusal.Refusal.{Refusal}
-use Rattle.edge_store.specs.declared.fault.StoreFault.{StoreFault}
 use Rattle.edge_store.specs.Calls.{KeepsPoint, KeepsWorking}
 use Rattle.edge_model.specs.declared.command.Answer.TheVariants as a
 use Rattle.edge_model.specs.declared.command.OpenFlags.{OpenFlags}
@@ -15,7 +13,7 @@ use Rattle.edge_volume.specs.declared.stop.Stop.{Stop}
 use Rattle.edge_volume.specs.declared.stop.Stop.TheVariants.{Refused, Fault}
 use Rattle.edge_volume.specs.Nodes.{OnTree}
 use Rattle.edge_volume.specs.Stopped.{fault_of, IfAnswered}
-use Rattle.edge_volume.specs.Volume.{VolumeState, VolumeStands, request_of, opens_of}
+use Rattle.edge_volume.specs.Volume.{VolumeState, VolumeStands, request_of}
 use Rattle.edge_volume.specs.Parts.{EndsBy, IsOfNoDamage}
 use Rattle.edge_volume.specs.Did.{KeepsMask, KeepsOpen, Did}
 use Rattle.edge_volume.proofs.DidLaws.{mask_kept, did_refused, did_fault, did_here}

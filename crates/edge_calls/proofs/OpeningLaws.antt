@@ -1,5 +1,5 @@
 -- What is planned for a path that is opened, by what it leads to.
-use Rattle.std.proofs.Common.{◌≡◌, ◌∙◌, ℕ, ◌||◌, not, Bool, true, false, cond, is_some, List, [], refl, sym, ap, subst, Option, Some, None}
+use Rattle.std.proofs.Common.{◌≡◌, ◌∙◌, ℕ, ◌||◌, not, Bool, true, false, cond, List, [], refl, sym, ap, subst, None}
 use Rattle.std.specs.Prelude.{Result, Ok, Err}
 use Rattle.edge_base.specs.commands.Descriptors.{Descriptors, first_empty, is_full}
 use Rattle.edge_base.specs.commands.Refusals.{◌>>=◌, refuse_if}
@@ -9,13 +9,12 @@ use Rattle.edge_base.specs.declared.refusal.Refusal.TheVariants as refusal
 use Rattle.edge_base.specs.outside.Below.{Origin}
 use Rattle.edge_base.specs.tree.Nodes.{file}
 use Rattle.edge_store.specs.State.{StoreState, HasInode}
-use Rattle.edge_store.specs.View.{is_number}
 use Rattle.edge_store.specs.declared.store.Store.{Ghosts as StoreGhosts}
 use Rattle.edge_dir.specs.declared.look.Found as look
 use Rattle.edge_dir.specs.declared.look.Place.TheVariants.{Taken, Free}
 use Rattle.edge_model.specs.declared.command.OpenFlags.{OpenFlags}
 use Rattle.edge_model.specs.Asking.{only_reads}
-use Rattle.edge_model.specs.Named.{NewName, new_name}
+use Rattle.edge_model.specs.Named.{new_name}
 use Rattle.edge_model.specs.Open.{are_bad_flags, open_plan, open_there, open_absent, open_spot, plan_open}
 use Rattle.edge_model.specs.Rules.{IsTree}
 use Rattle.edge_model.specs.State.{State, Plan}
@@ -36,7 +35,7 @@ use Rattle.edge_walk.proofs.StillLaws.{on_tree_before, on_tree_after, reached_af
 use Rattle.edge_calls.specs.declared.open.Opening.{Opening}
 use Rattle.edge_calls.specs.declared.open.Opening.TheVariants.{There, New}
 use Rattle.edge_calls.specs.declared.vacant.Vacancy.{Vacancy}
-use Rattle.edge_calls.specs.Openings.{IsNew, IsOpening, IsShort, IsThere, OpensAs, OpensIn, made_plan, may_make, may_open, planned_for, root_refusal}
+use Rattle.edge_calls.specs.Openings.{IsNew, IsShort, IsThere, OpensAs, OpensIn, made_plan, may_make, may_open, planned_for, root_refusal}
 
 -- ---- plans
 

@@ -1,5 +1,5 @@
 -- A name put into an empty slot of a directory: the change that names the edit, and the room of the slot.
-use Rattle.std.proofs.Common.{◌≡◌, ℕ, ◌+◌, ◌/◌, ◌<◌, true, is_some, List, [], ◌∷◌, refl, arith, Some, None}
+use Rattle.std.proofs.Common.{◌≡◌, ℕ, ◌+◌, ◌/◌, ◌<◌, true, is_some, [], ◌∷◌, refl, arith, Some, None}
 use Rattle.edge_base.specs.declared.geometry.Request.{Request}
 use Rattle.edge_base.specs.layout.Places.{IsWithinLimits, max_blocks_of}
 use Rattle.edge_base.specs.tree.Slots.{Entry, slots_in_block}

@@ -209,6 +209,6 @@ module _ (path to : List ℕ) (old : VolumeState) (out : List ℕ) where
             → ((z : State) → StoreStands made z → Comes None made last.store z (point_after due z) (trees_after due z)) → Did asked (Ok a.Done) old last out
         rename_done ended takes comes =
             did_answer asked old mid out geometry b full change 3 looked plans ends most judges fits mid_mask made view made_ends point edits due point_so last mask
-            (same_opens old last are) a.Done ended takes comes (mask_kept asked (Ok a.Done) old last refl (λ answer. tt) mask)
+            a.Done ended takes comes (mask_kept asked (Ok a.Done) old last refl (λ answer. tt) mask)
             (record { after = same_opens old last are; stays = λ x. same_opens old last are }) tt
             (λ of_bytes in_limits s stands. (refl, mask ∙ stands.mask, are ∙ stands.descriptors))

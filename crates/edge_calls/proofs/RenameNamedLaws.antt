@@ -111,9 +111,10 @@ module _ (g : Request) (v : View) (t : Tree) (df sf dt st n : ℕ) (name : List 
 
   here : dt ≡ df → IsSetTo node.0 (slots_at held df) st (Some entry)
   here same =
-      let set = placed_slot t dt st entry to inside in
-      (ap (λ (d : ℕ). slot_at held d st) (sym same) ∙ set.here,
-      λ j other. set.others df j (λ is at. other at) ∙ ap (λ (s : Slots). slot_in s j) slots_same)
+      let set = placed_slot t dt st entry to inside in (
+        ap (λ (d : ℕ). slot_at held d st) (sym same) ∙ set.here,
+        λ j other. set.others df j (λ is at. other at) ∙ ap (λ (s : Slots). slot_in s j) slots_same,
+      )
 
   elsewhere : dt ≢ df → slots_at held df ≡ node.0
   elsewhere other = slots_others t held dt _ df (placed_set t dt st entry to).set (λ same. other (sym same)) ∙ slots_same
@@ -224,7 +225,7 @@ module _ (g : Request) (v : View) (t : Tree) (df sf dt st n : ℕ) (name : List 
       let own = node_set moved r None in
       let gone : is_some (u r) ≡ false = (parent_set w n dt).there r ∙ ap (λ (o : Option Node). is_some o) own.here in
       let kept : (x : ℕ) → x ≢ r → is_some (t x) ≡ true → is_some (u x) ≡ true =
-          λ x other h. (parent_set w n dt).there x ∙ ap (λ (o : Option Node). is_some o) (own.others x other) ∙ moved_there x ∙ h in
+      λ x other h. (parent_set w n dt).there x ∙ ap (λ (o : Option Node). is_some o) (own.others x other) ∙ moved_there x ∙ h in
       edit_named u (data_positions g t r) (kept dt not_to (directory_there t dt to)) (kept df not_from (directory_there t df from)) (one_goes g t u r gone kept removes)
 
   by_links : (r : ℕ) (last : Bool) → dt ≢ r → df ≢ r

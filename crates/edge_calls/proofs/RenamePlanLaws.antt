@@ -183,9 +183,11 @@ module _ (g : Request) (t : Tree) (ds : Descriptors) where
           → (old_name : List ℕ) × (walk t names ≡ Ok (within h.dir old_name)) × (find_name t h.dir old_name ≡ Some (record { slot = h.slot; number = h.number }))
       by top found at there e = absurd (err_is_not_ok refusal.Busy h (Err refusal.Busy) refl e)
       by (within d name) found at there e =
-          let same = ok_is (let x : Held = record { dir = d; slot = found.slot; number = found.number } in x) h (held_at (within d name) found) refl e in
-          (name, at ∙ ap (λ (x : Held). Ok (within x.dir name)) same,
-          ap (λ (x : Held). find_name t x.dir name) (sym same) ∙ there ∙ ap (λ (x : Held). Some (let y : Found = record { slot = x.slot; number = x.number } in y)) same)
+          let same = ok_is (let x : Held = record { dir = d; slot = found.slot; number = found.number } in x) h (held_at (within d name) found) refl e in (
+            name,
+            at ∙ ap (λ (x : Held). Ok (within x.dir name)) same,
+            ap (λ (x : Held). find_name t x.dir name) (sym same) ∙ there ∙ ap (λ (x : Held). Some (let y : Found = record { slot = x.slot; number = x.number } in y)) same,
+          )
 
   -- of the name that it is to have
   was_wanted : (names : List (List ℕ)) (n : ℕ) (name : NameIn) → name_for t names n ≡ Ok name
@@ -222,7 +224,7 @@ module _ (g : Request) (t : Tree) (ds : Descriptors) where
       by slot room r e =
           let x : Rename = record { held = held; name = name; slot = slot; replaced = None } in
           subst (λ (y : Rename). (held ≡ y.held) × (name ≡ y.name) × IsPlacedAt g t y y.replaced) (some_same x r (ok_is (Some x) (Some r) (Ok (Some x)) refl e))
-          (refl, refl, there, room)
+          (refl, refl, (there, room))
   was_onto held name (Some found) there r is = by (found.number == held.number) refl is
     where
       by : (same : Bool) → (found.number == held.number) ≡ same
@@ -231,13 +233,18 @@ module _ (g : Request) (t : Tree) (ds : Descriptors) where
       by true h e = absurd (none_some r (ok_is None (Some r) (Ok None) refl e))
       by false h e =
           let a = after_part (replaced_by g t ds held.number found.number)
-              (λ k. Ok (Some (let x : Rename = record { held = held; name = name; slot = found.slot; replaced = Some k } in x))) (Some r) e in
+          (λ k. Ok (Some (let x : Rename = record { held = held; name = name; slot = found.slot; replaced = Some k } in x))) (Some r) e in
           let b = was_replaced held.number found.number a.0 a.1 in
           let x : Rename = record { held = held; name = name; slot = found.slot; replaced = Some a.0 } in
-          subst (λ (y : Rename). (held ≡ y.held) × (name ≡ y.name) × IsPlacedAt g t y y.replaced) (some_same x r (ok_is (Some x) (Some r) (Ok (Some x)) refl a.2))
-          (refl, refl, there ∙ ap (λ (k : ℕ). Some (let y : Found = record { slot = found.slot; number = k } in y)) b.0,
-          (λ same. eqb-false found.number held.number h (b.0 ∙ same)),
-          subst (λ (k : ℕ). is_directory t k ≡ true → is_empty (slots_at t k) ≡ true) b.0 b.1)
+          subst (λ (y : Rename). (held ≡ y.held) × (name ≡ y.name) × IsPlacedAt g t y y.replaced) (some_same x r (ok_is (Some x) (Some r) (Ok (Some x)) refl a.2)) (
+            refl,
+            refl,
+            (
+              there ∙ ap (λ (k : ℕ). Some (let y : Found = record { slot = found.slot; number = k } in y)) b.0,
+              (λ same. eqb-false found.number held.number h (b.0 ∙ same)),
+              subst (λ (k : ℕ). is_directory t k ≡ true → is_empty (slots_at t k) ≡ true) b.0 b.1,
+            ),
+          )
 
 pub facts : (g : Request) (t : Tree) (ds : Descriptors) (path to : List ℕ) (r : Rename) → rename_of g t ds path to ≡ Ok (Some r) → IsRenaming g t path to r
 facts g t ds path to r is =

@@ -42,7 +42,8 @@ module _ (a b : StoreState) (ends : EndsBy None a b) (working : KeepsWorking a b
       record {
         there = (
           (number_still r.change.to.dir to.0, inode_still r.change.to.dir to.1),
-          (number_still r.change.from.dir from.0, inode_still r.change.from.dir from.1, directory_still r.change.from.dir from.2));
+          (number_still r.change.from.dir from.0, inode_still r.change.from.dir from.1, directory_still r.change.from.dir from.2),
+        );
         within = subst (λ (o : Origin). IsWithin o.request (Slots (Some r.change.to) (Some r.change.from))) (sym ends.origin) ready.within;
         node = node_still a b r.change.node.number r.change.node.head ends working ready.node;
         replaced = over_still r.change.replaced ready.replaced;

@@ -216,6 +216,6 @@ module _ (command : Asked) (unnames : Unnames command) (named : Named) (old : Vo
       pub unname_done : EndsBy None made last.store → TakesUpTo (points_due due) made last.store
           → ((z : State) → StoreStands made z → Comes None made last.store z (point_after due z) (trees_after due z)) → Did command (Ok a.Done) old last out
       unname_done ended takes comes =
-          did_answer command old mid out geometry old.store full changed 0 looked plans ends most judges fits mid_mask made view made_ends point edits due due_so last mask (same_opens old last are)
+          did_answer command old mid out geometry old.store full changed 0 looked plans ends most judges fits mid_mask made view made_ends point edits due due_so last mask
           a.Done ended takes comes (keeps_mask command unnames _ old last mask) (keeps_open command unnames _ old last (same_opens old last are)) tt
           (λ of_bytes limits s stands. (refl, mask ∙ stands.mask, are ∙ stands.descriptors))

@@ -1,14 +1,13 @@
 -- Where a new name goes, by what was found, in the words of the tree.
 use Rattle.std.proofs.Common.{◌≡◌, ◌↔◌, ◌∙◌, ℕ, not, Bool, true, false, cond, List, [], ◌∷◌, length, filter, find, is_some, refl, sym, ap, arith, Option, Some, None}
-use Rattle.std.specs.Prelude.{Result, Ok, Err}
+use Rattle.std.specs.Prelude.{Ok, Err}
 use Rattle.std.proofs.lemmas.List.Sums.{length-filter}
 use Rattle.edge_base.specs.commands.Descriptors.{first_empty}
-use Rattle.edge_base.specs.commands.Refusals.{◌>>=◌, refuse_if, or_refuse}
+use Rattle.edge_base.specs.commands.Refusals.{◌>>=◌}
 use Rattle.edge_base.specs.declared.geometry.Request.{Request}
 use Rattle.edge_base.specs.declared.refusal.Refusal.{Refusal}
 use Rattle.edge_base.specs.declared.refusal.Refusal.TheVariants as refusal
 use Rattle.edge_base.specs.outside.Below.{Origin}
-use Rattle.edge_store.specs.State.{Told}
 use Rattle.edge_store.specs.Told.{AreFreeInodes}
 use Rattle.edge_store.specs.View.{View, free_inodes}
 use Rattle.edge_store.specs.declared.store.Store.{Ghosts as StoreGhosts}
@@ -16,7 +15,7 @@ use Rattle.edge_model.specs.Asked.{Reply, room}
 use Rattle.edge_model.specs.State.{State}
 use Rattle.edge_model.specs.Step.{room_of}
 use Rattle.edge_model.specs.Tree.{Tree, free_number, free_numbers, numbers_of, slots_at}
-use Rattle.edge_model.specs.Walk.{Spot, Found, top, within, find_name, spot_of}
+use Rattle.edge_model.specs.Walk.{Spot, Found, within, find_name, spot_of}
 use Rattle.edge_stands.specs.Session.{StandForState}
 use Rattle.edge_stands.proofs.SpaceLaws.{space_is}
 use Rattle.edge_volume.specs.Parts.{Looks}

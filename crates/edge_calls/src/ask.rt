@@ -46,18 +46,15 @@ fn are_bytes(c: Command<'_>)
 
 fn of_bytes(bytes: &[u8])
     ensures { AreBytes bytes.now }
-{
-}
+{}
 
 fn two_of_bytes(one: &[u8], two: &[u8])
     ensures { AreBytes one.now × AreBytes two.now }
-{
-}
+{}
 
 fn of_byte(byte: u8)
     ensures { byte < 256 }
-{
-}
+{}
 
 impl<S: Store> Volume<S> {
     /// Answers a command.
@@ -154,12 +151,7 @@ impl<S: Store> Ask for Volume<S> {
         self.store.points()
     }
 
-    fn ask(
-        &mut self,
-        c: Command<'_>,
-        _moment: u32,
-        out: &mut [u8],
-    ) -> Result<Answer, AskFault> {
+    fn ask(&mut self, c: Command<'_>, _moment: u32, out: &mut [u8]) -> Result<Answer, AskFault> {
         are_bytes(c);
         match self.answer(c, out) {
             Ok(answer) => Ok(answer),

@@ -233,8 +233,12 @@ fn moved_into<'a>(
     slot: u64,
     replaced: Option<NamedNode>,
 ) -> Renaming<'a>
-    ensures change { result.change ≡ record { node = named.node; from = named.at;
-        to = record { dir = wanted.entry.dir; slot = slot }; replaced = replaced } }
+    ensures change { result.change ≡ record {
+      node = named.node;
+      from = named.at;
+      to = record { dir = wanted.entry.dir; slot = slot };
+      replaced = replaced;
+    } }
     ensures name { result.name ≡ wanted.entry.name }
 {
     let to = SlotAt {
@@ -320,20 +324,20 @@ impl<S: Store> Volume<S> {
             (volume_of S.Store self.old) (volume_of S.Store self.new) out }
     {
         let renaming = renaming_of(&mut self.store, &self.handles, path, to)?;
-        let Some(Renaming { change, name }) = renaming else {
+        let Some(moving) = renaming else {
             take_point(&mut self.store, self.mask.has(Events::RENAME))?;
             return Ok(Answer::Done);
         };
         let _within_limits = self.store.geometry().request();
         let slots = Change::Slots {
-            put: Some(change.to),
-            clear: Some(change.from),
+            put: Some(moving.change.to),
+            clear: Some(moving.change.from),
         };
         let full = self.mask.has(Events::FULL);
         if !has_room(&mut self.store, full, &slots, RESERVE)? {
             return Err(Stop::Refused(Refusal::NoSpace));
         }
-        move_name(&mut self.store, &change, name)?;
+        move_name(&mut self.store, &moving.change, moving.name)?;
         take_point(&mut self.store, self.mask.has(Events::RENAME))?;
         Ok(Answer::Done)
     }

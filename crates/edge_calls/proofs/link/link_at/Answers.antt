@@ -64,7 +64,7 @@ returns-then-is_behind-clause-link g c z stands tree =
     let there = on_tree_before g.S.Store c.args.s.now c.file_at.new.s c.in_ok-file.ensures.looks (λ t. Ok at ≡ vacancy_at t c.in_ok-from.to) c.in_ok-at.ensures.vacancy
     z stands tree in
     let few = c.if-file-ge-MOST_LINKS.false in
-    let same = c.geometry-1.ensures ∙ ap (λ (o : Origin). o.request) (c.in_ok-at.ensures.looks.ends.origin ∙ c.in_ok-file.ensures.looks.ends.origin) in
+    let same = c.geometry-2.ensures ∙ ap (λ (o : Origin). o.request) (c.in_ok-at.ensures.looks.ends.origin ∙ c.in_ok-file.ensures.looks.ends.origin) in
     link_behind st.origin.request z.tree path to both file.n (c.in_ok-file.ensures.file z stands tree ∙ ap (file_at z.tree) names.0) at (there ∙ ap (vacancy_at z.tree) names.1)
     (ap (nat_le 65535) (sym (c.in_ok-file.ensures.links z stands tree)) ∙ le-ltb 65534 file.head.links (omega (arith, few)))
     (sym (c.is_behind.ensures.behind ∙ (λ i. is_behind (same i) at.slot)) ∙ c.if-is_behind.true)
@@ -81,7 +81,7 @@ returns-clause-link g c z stands tree =
     let there = on_tree_before g.S.Store c.args.s.now c.file_at.new.s c.in_ok-file.ensures.looks (λ t. Ok at ≡ vacancy_at t c.in_ok-from.to) c.in_ok-at.ensures.vacancy
     z stands tree in
     let few = c.if-file-ge-MOST_LINKS.false in
-    let same = c.geometry-1.ensures ∙ ap (λ (o : Origin). o.request) (c.in_ok-at.ensures.looks.ends.origin ∙ c.in_ok-file.ensures.looks.ends.origin) in
+    let same = c.geometry-2.ensures ∙ ap (λ (o : Origin). o.request) (c.in_ok-at.ensures.looks.ends.origin ∙ c.in_ok-file.ensures.looks.ends.origin) in
     link_is st.origin.request z.tree path to both file.n (c.in_ok-file.ensures.file z stands tree ∙ ap (file_at z.tree) names.0) at (there ∙ ap (vacancy_at z.tree) names.1)
     (ap (nat_le 65535) (sym (c.in_ok-file.ensures.links z stands tree)) ∙ le-ltb 65534 file.head.links (omega (arith, few)))
     (sym (c.is_behind.ensures.behind ∙ (λ i. is_behind (same i) at.slot)) ∙ c.if-is_behind.false)

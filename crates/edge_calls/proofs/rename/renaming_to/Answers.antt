@@ -1,5 +1,6 @@
 use Rattle.std.proofs.Common.{◌≡◌, ◌∙◌, Some, None, sym, ap, subst}
 use Rattle.std.specs.Prelude.{Ok, Err}
+use Rattle.std.proofs.lemmas.Bool.{ne_eqb}
 use Rattle.std.proofs.lemmas.Result.{err_from_is_err_and}
 use Rattle.edge_base.specs.declared.geometry.Request.{Request}
 use Rattle.edge_base.specs.outside.Below.{Origin}
@@ -35,7 +36,7 @@ returns-in_err-there-in-Taken-clause-renaming g c =
     (onto_stopped g.S.Store c.args.s.now c.place_at.new.s c.in_ok-slot.ensures.looks c.args.handles.now (held_in c.args.named) (name_in c.args.wanted)
     (record { slot = found.slot; number = found.number })
     (subst (λ (place : Place). OnTree st (λ t. IsPlaceFor t c.args.wanted.dir c.args.wanted.name.now place)) c.in-Taken.is c.in_ok-slot.ensures.place)
-    c.if-found-named.false c.in_err-there-in-Taken.field-0.0 c.in_err-there-in-Taken.ensures.replaced)
+    (ne_eqb c.in-Taken.found.number c.args.named.node.number c.if-found-named.false) c.in_err-there-in-Taken.field-0.0 c.in_err-there-in-Taken.ensures.replaced)
 
 pub returns-in_ok-slot-in-Free-clause-renaming : goal.returns-in_ok-slot-in-Free-clause-renaming
 returns-in_ok-slot-in-Free-clause-renaming g c z stands tree =
@@ -60,5 +61,5 @@ returns-in_ok-there-in-Taken-clause-renaming g c =
     onto_moved g.S.Store c.args.s.now c.place_at.new.s c.in_ok-slot.ensures.looks c.args.handles.now (held_in c.args.named) (name_in c.args.wanted)
     (record { slot = found.slot; number = found.number })
     (subst (λ (place : Place). OnTree st (λ t. IsPlaceFor t c.args.wanted.dir c.args.wanted.name.now place)) c.in-Taken.is c.in_ok-slot.ensures.place)
-    c.if-found-named.false c.in_ok-there-in-Taken.there.number (rename_with c.moved_into-in-Taken.result.change c.moved_into-in-Taken.result.name.now)
+    (ne_eqb c.in-Taken.found.number c.args.named.node.number c.if-found-named.false) c.in_ok-there-in-Taken.there.number (rename_with c.moved_into-in-Taken.result.change c.moved_into-in-Taken.result.name.now)
     (λ i. rename_with (moved.change i) (moved.name i).now) c.in_ok-there-in-Taken.ensures.replaced

@@ -1,5 +1,4 @@
 use Rattle.std.proofs.Common.{◌∙◌, sym, ap}
-use Rattle.std.proofs.lemmas.Bool.{eqb-true, eq-eqb, false≢true}
 use Rattle.edge_base.specs.outside.Below.{Origin}
 use Rattle.edge_calls.specs.Makes.{NewName, is_behind}
 use Rattle.edge_calls.proofs.VacancyLaws.{told_none, told_some, place_without_number, place_behind, place_is}
