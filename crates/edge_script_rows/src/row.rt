@@ -9,11 +9,11 @@ use std::fs;
 use std::fs::File;
 use std::rt::Files;
 
-/// The volume that scripts run on: its image, and the bytes of a block as a word.
+/// The volume that scripts run on: its image, and the bytes of a block.
 #[derive(Drop)]
 pub struct Volume {
     image: Vec<u8>,
-    block_size: String,
+    block_size: u32,
 }
 
 impl Volume {
@@ -21,7 +21,7 @@ impl Volume {
     pub fn new(alloc: Global) -> Volume {
         Volume {
             image: Vec::new(alloc),
-            block_size: String::new(alloc),
+            block_size: 512,
         }
     }
 }
@@ -69,14 +69,19 @@ fn format_volume(alloc: Global, out: &mut String, volume: &mut Volume, text: &st
     let answer = order(alloc, &words, b"", &zeros)?;
     push_lines(out, '<', answer.sink.taken())?;
     volume.image = shown(alloc, &answer.disk)?;
-    volume.block_size = format!(in alloc; "{}", needed.block_size)?;
+    volume.block_size = needed.block_size;
     Ok(())
 }
 
 // Runs a script over the volume. The image is what the disk shows then.
 fn run(alloc: Global, volume: &mut Volume, script: &[u8]) -> Result<Answer> {
-    let words = ["run", "I", "-b", volume.block_size.as_str()];
-    let answer = order(alloc, &words, script, &volume.image)?;
+    let size = format!(in alloc; "{}", volume.block_size)?;
+    let answer = order(
+        alloc,
+        &["run", "I", "-b", size.as_str()],
+        script,
+        &volume.image,
+    )?;
     volume.image = shown(alloc, &answer.disk)?;
     Ok(answer)
 }
