@@ -4,6 +4,7 @@
 #![tactic(auto)]
 
 mod orders;
+mod plain;
 mod replies;
 mod row;
 

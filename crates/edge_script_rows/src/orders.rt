@@ -14,7 +14,7 @@ use std::alloc::{AllocError, Global};
 /// The candidates that a disk has room for besides one a block, and the bytes of all replies.
 const DISK_ROOM: u32 = 4096;
 
-const SINK_ROOM: usize = 1 << 20;
+pub(crate) const SINK_ROOM: usize = 1 << 20;
 
 /// What a call of `edge` leaves.
 #[derive(Drop)]

@@ -1,19 +1,23 @@
 use crate::orders::{Answer, order, shown};
+use crate::plain::replies_in_memory;
 use crate::replies::{push_count, push_replies};
 use anyhow::{Context, Result, bail};
 use edge_app::{Report, fault_line};
+use edge_base::Geometry;
 use edge_statement::{push_escaped, push_lines};
-use edge_words::need;
+use edge_words::{Order, need, read_words};
 use std::alloc::{AllocError, Global};
 use std::fs;
 use std::fs::File;
 use std::rt::Files;
 
-/// The volume that scripts run on: its image, and the bytes of a block.
+/// The volume that scripts run on: its image, the bytes of a block, and while no script has run on
+/// it its geometry.
 #[derive(Drop)]
 pub struct Volume {
     image: Vec<u8>,
     block_size: u32,
+    fresh: Option<Geometry>,
 }
 
 impl Volume {
@@ -22,6 +26,7 @@ impl Volume {
         Volume {
             image: Vec::new(alloc),
             block_size: 512,
+            fresh: None,
         }
     }
 }
@@ -39,15 +44,19 @@ pub fn answer_row<R: Files<File = File> + AllocGlobal>(
         "volume" => format_volume(alloc, &mut out, volume, rest)?,
         "run" => {
             let script = script_of(alloc, rest)?;
+            let fresh = volume.fresh;
             let answer = run(alloc, volume, &script)?;
             push_replies(alloc, &mut out, rest, answer.sink.taken())?;
             push_end(&mut out, &answer.report)?;
+            push_other(alloc, &mut out, fresh, &script, answer.sink.taken())?;
         }
         "file" => {
             let script = fs::read(rt, rest)?;
+            let fresh = volume.fresh;
             let answer = run(alloc, volume, &script)?;
             push_count(&mut out, answer.sink.taken())?;
             push_end(&mut out, &answer.report)?;
+            push_other(alloc, &mut out, fresh, &script, answer.sink.taken())?;
         }
         _ => bail!("no statement: {verb}"),
     }
@@ -70,6 +79,10 @@ fn format_volume(alloc: Global, out: &mut String, volume: &mut Volume, text: &st
     push_lines(out, '<', answer.sink.taken())?;
     volume.image = shown(alloc, &answer.disk)?;
     volume.block_size = needed.block_size;
+    volume.fresh = match read_words(&words) {
+        Ok(Order::Format { request, .. }) => Geometry::checked(request).ok(),
+        _ => None,
+    };
     Ok(())
 }
 
@@ -83,7 +96,27 @@ fn run(alloc: Global, volume: &mut Volume, script: &[u8]) -> Result<Answer> {
         &volume.image,
     )?;
     volume.image = shown(alloc, &answer.disk)?;
+    volume.fresh = None;
     Ok(answer)
+}
+
+// Appends the replies of a store in memory to a script over a fresh volume, where they are others.
+fn push_other(
+    alloc: Global,
+    out: &mut String,
+    fresh: Option<Geometry>,
+    script: &[u8],
+    taken: &[u8],
+) -> Result<()> {
+    let Some(g) = fresh else {
+        return Ok(());
+    };
+    let other = replies_in_memory(alloc, g, script)?;
+    if other.taken() != taken {
+        out.push_str("  other replies of the store in memory:\n")?;
+        push_lines(out, '<', other.taken())?;
+    }
+    Ok(())
 }
 
 // The lines between `; `, each with a line feed.
